@@ -1,0 +1,8 @@
+(declare-sort U 0)
+(declare-fun f (U) U)
+(declare-const a U)
+(declare-const b U)
+(assert (= (f a) (f a)))
+(assert (= (f b) (f b)))
+(assert (forall ((x U)) (! (= x x) :pattern ((f x)))))
+(check-sat)
