@@ -1,5 +1,5 @@
 -- Finding partners token by token.
-use Rattle.std.proofs.Common.{◌≡◌, ◌⊎◌, inl, inr, ℕ, zero, suc, ◌+◌, ◌-◌, ◌≤◌, ◌<◌, ◌^◌, List, [], ◌∷◌, ◌++◌, length, take, drop, get_or, set, refl, ap, sym, ◌∙◌, arith, subst, length-append, length-set}
+use Rattle.std.proofs.Common.{◌≡◌, inl, inr, ℕ, zero, suc, ◌+◌, ◌-◌, ◌≤◌, ◌<◌, ◌^◌, List, [], ◌∷◌, ◌++◌, length, take, drop, get_or, set, refl, ap, sym, ◌∙◌, arith, subst, length-append, length-set}
 use Rattle.std.proofs.Math.Seq.{get_or-set_same, get_or-set_other, get_or-append_seam}
 use Rattle.std.proofs.Math.ListN.{get_or-append}
 use Rattle.std.proofs.lemmas.Bool.{cases_lt, cases_eq}
@@ -8,9 +8,9 @@ use Rattle.smt_text.specs.Word.{Word, words_of, AreInPlace}
 use Rattle.smt_text.specs.Partners.{kinds, opens, closes, opened, closed, span, Closes, IsPartner, IsWhole}
 use Rattle.smt_text.specs.Pairing.{token_kinds, bare, IsOpenAt, IsAmong, HasPartner, AllPaired, Paired, IsTree}
 use Rattle.smt_text.specs.declared.token.Kind.{Kind}
-use Rattle.smt_text.specs.declared.token.Kind.TheVariants.{Left, Right, Symbol, Keyword, Numeral, Decimal, Hex, Binary, Text}
+use Rattle.smt_text.specs.declared.token.Kind.TheVariants.{Left, Right}
 use Rattle.smt_text.specs.declared.token.Token.{Token}
-use Rattle.smt_text.proofs.Partners.{opened_more, closed_more, begins}
+use Rattle.smt_text.specs.PartnersLaws.{opened_more, closed_more, begins}
 use Rattle.smt_text.proofs.Words.{length-words_of}
 
 pub length-token_kinds : (ts : List Token) → length (token_kinds ts) ≡ length ts
@@ -78,10 +78,12 @@ module _ (ks : List Kind) (n : ℕ) (there : n < length ks) where
     least = λ k later within. elim (cases_lt n k) [
       | inl past ↦ subst (λ (m : ℕ). closed (span ks p m) < opened (span ks p m)) (at k past within) (omega (arith, deep, some))
       | inr le ↦ o.least k later le
-    ] }
+    ];
+  }
     where
       deep : opened (span ks p (n + 1)) ≡ closed (span ks p (n + 1)) + j'
       deep = omega (arith, opened_more ks p n (omega (arith, o.before)) there, closed_more ks p n (omega (arith, o.before)) there, o.deep, step)
+
       at : (k : ℕ) → n < k → k ≤ n + 1 → n + 1 ≡ k
       at k past within = omega (arith, past, within)
 
@@ -89,10 +91,12 @@ module _ (ks : List Kind) (n : ℕ) (there : n < length ks) where
   open_new left = record {
     before = omega arith;
     deep = deep;
-    least = λ k later within. subst (λ (m : ℕ). closed (span ks n m) < opened (span ks n m)) (at k later within) (omega (arith, deep)) }
+    least = λ k later within. subst (λ (m : ℕ). closed (span ks n m) < opened (span ks n m)) (at k later within) (omega (arith, deep));
+  }
     where
       deep : opened (span ks n (n + 1)) ≡ closed (span ks n (n + 1)) + 1
       deep = omega (arith, opened_more ks n n (omega arith) there, closed_more ks n n (omega arith) there, ap opened (span_none ks n), ap closed (span_none ks n), ap opens left, ap closes left)
+
       at : (k : ℕ) → n < k → k ≤ n + 1 → n + 1 ≡ k
       at k past within = omega (arith, past, within)
 
@@ -101,7 +105,8 @@ module _ (ks : List Kind) (n : ℕ) (there : n < length ks) where
     later = o.before;
     there = there;
     even = omega (arith, opened_more ks p n (omega (arith, o.before)) there, closed_more ks p n (omega (arith, o.before)) there, o.deep, ap opens right, ap closes right);
-    least = o.least }
+    least = o.least;
+  }
 
   all_more : (len len' : ℕ) → opened (span ks 0 n) ≡ closed (span ks 0 n) + len → len + opens (get_or ks n Left) ≡ len' + closes (get_or ks n Left)
       → opened (span ks 0 (n + 1)) ≡ closed (span ks 0 (n + 1)) + len'
@@ -126,7 +131,8 @@ pub paired_none : (ks : List Kind) (ts : List Token) → Paired ks ts [] 0
 paired_none ks ts = record {
   stack = λ k less. absurd (omega (arith, less));
   all = refl;
-  done = λ i less. absurd (omega (arith, less)) }
+  done = λ i less. absurd (omega (arith, less));
+}
 
 module _ (ks : List Kind) (ts : List Token) (n : ℕ) (there : n < length ks) where
   pub paired_left : (lefts : List ℕ) → Paired ks ts lefts n → get_or ks n Left ≡ Left → Paired ks ts (lefts ++ n ∷ []) (n + 1)
@@ -141,32 +147,37 @@ module _ (ks : List Kind) (ts : List Token) (n : ℕ) (there : n < length ks) wh
     done = λ i less. elim (cases_lt i n) [
       | inl before ↦ elim (paired.done i before) [ inl among ↦ inl (among_more lefts n i among) | inr has ↦ inr has ]
       | inr last ↦ inl (subst (IsAmong (lefts ++ n ∷ [])) (is i less last) (among_last lefts n))
-    ] }
+    ];
+  }
     where
       len : length (lefts ++ n ∷ []) ≡ length lefts + 1
       len = length-append lefts (n ∷ [])
+
       at : (k : ℕ) → k < length (lefts ++ n ∷ []) → length lefts ≤ k → length lefts ≡ k
       at k less last = omega (arith, less, last, len)
+
       one : (k : ℕ) → k < length (lefts ++ n ∷ []) → length lefts ≤ k → 1 ≡ length (lefts ++ n ∷ []) - k
       one k less last = omega (arith, less, last, len)
+
       is : (i : ℕ) → i < n + 1 → n ≤ i → n ≡ i
       is i less last = omega (arith, less, last)
 
   pub paired_other : (lefts : List ℕ) (t : Token) → Paired ks ts lefts n → n < length ts → t.partner ≡ n → get_or ks n Left ≢ Left → get_or ks n Left ≢ Right
       → Paired ks (set ts n t) lefts (n + 1)
   paired_other lefts t paired short own no_left no_right =
-    let none : (opens (get_or ks n Left) ≡ 0) × (closes (get_or ks n Left) ≡ 0) = no_counts (get_or ks n Left) no_left no_right in
-    record {
-    stack = λ k less. open_on ks n there (length lefts - k) (length lefts - k) (get_or lefts k 0) (paired.stack k less) (omega (arith, none.0, none.1)) (omega (arith, less));
-    all = all_more ks n there (length lefts) (length lefts) paired.all (omega (arith, none.0, none.1));
-    done = λ i less. elim (cases_lt i n) [
-      | inl before ↦ elim (paired.done i before) [
-          | inl among ↦ inl among
-          | inr has ↦ inr (λ d. subst (λ (u : Token). IsPartner ks i u.partner (get_or ks i Left)) (sym (get_or-set_other ts n i t d (λ same. omega (arith, same, before)))) (has d))
-        ]
-      | inr last ↦ inr (subst (HasPartner ks (set ts n t)) (is i less last)
-          (λ d. own_partner ks n (get_or (set ts n t) n d).partner (get_or ks n Left) no_left no_right (ap (λ (u : Token). u.partner) (get_or-set_same ts n t d short) ∙ own)))
-    ] }
+      let none : (opens (get_or ks n Left) ≡ 0) × (closes (get_or ks n Left) ≡ 0) = no_counts (get_or ks n Left) no_left no_right in
+      record {
+        stack = λ k less. open_on ks n there (length lefts - k) (length lefts - k) (get_or lefts k 0) (paired.stack k less) (omega (arith, none.0, none.1)) (omega (arith, less));
+        all = all_more ks n there (length lefts) (length lefts) paired.all (omega (arith, none.0, none.1));
+        done = λ i less. elim (cases_lt i n) [
+          | inl before ↦ elim (paired.done i before) [
+            | inl among ↦ inl among
+            | inr has ↦ inr (λ d. subst (λ (u : Token). IsPartner ks i u.partner (get_or ks i Left)) (sym (get_or-set_other ts n i t d (λ same. omega (arith, same, before)))) (has d))
+          ]
+          | inr last ↦ inr (subst (HasPartner ks (set ts n t)) (is i less last)
+              (λ d. own_partner ks n (get_or (set ts n t) n d).partner (get_or ks n Left) no_left no_right (ap (λ (u : Token). u.partner) (get_or-set_same ts n t d short) ∙ own)))
+        ];
+      }
     where
       is : (i : ℕ) → i < n + 1 → n ≤ i → n ≡ i
       is i less last = omega (arith, less, last)
@@ -185,30 +196,33 @@ module _ (ks : List Kind) (ts : List Token) (n : ℕ) (there : n < length ks) wh
     pub paired_right : (t u : Token) → length ts ≡ length ks → t.partner ≡ n → u.partner ≡ p → get_or ks n Left ≡ Right
         → Paired ks (set (set ts p t) n u) lefts (n + 1)
     paired_right t u same t_is u_is right =
-      let closes_it : Closes ks p n = closes_now ks n there p innermost right in
-      record {
-      stack = λ k less. open_on ks n there (length (lefts ++ p ∷ []) - k) (length lefts - k) (get_or lefts k 0)
-          (subst (IsOpenAt ks n (length (lefts ++ p ∷ []) - k)) (get_or-append lefts (p ∷ []) 0 k less) (paired.stack k (omega (arith, less, len))))
-          (omega (arith, less, len, ap opens right, ap closes right)) (omega (arith, less));
-      all = all_more ks n there (length (lefts ++ p ∷ [])) (length lefts) paired.all (omega (arith, len, ap opens right, ap closes right));
-      done = λ i less. elim (cases_lt i n) [
-        | inl before ↦ elim (cases_eq i p) [
-            | inl same_p ↦ inr (subst (HasPartner ks (set (set ts p t) n u)) (sym same_p) (of_left closes_it))
-            | inr other ↦ elim (paired.done i before) [
+        let closes_it : Closes ks p n = closes_now ks n there p innermost right in
+        record {
+          stack = λ k less. open_on ks n there (length (lefts ++ p ∷ []) - k) (length lefts - k) (get_or lefts k 0)
+              (subst (IsOpenAt ks n (length (lefts ++ p ∷ []) - k)) (get_or-append lefts (p ∷ []) 0 k less) (paired.stack k (omega (arith, less, len))))
+              (omega (arith, less, len, ap opens right, ap closes right)) (omega (arith, less));
+          all = all_more ks n there (length (lefts ++ p ∷ [])) (length lefts) paired.all (omega (arith, len, ap opens right, ap closes right));
+          done = λ i less. elim (cases_lt i n) [
+            | inl before ↦ elim (cases_eq i p) [
+              | inl same_p ↦ inr (subst (HasPartner ks (set (set ts p t) n u)) (sym same_p) (of_left closes_it))
+              | inr other ↦ elim (paired.done i before) [
                 | inl among ↦ inl (among_front lefts p i among other)
                 | inr has ↦ inr (λ d. subst (λ (v : Token). IsPartner ks i v.partner (get_or ks i Left))
                     (sym (get_or-set_other (set ts p t) n i u d (λ e. omega (arith, e, before)) ∙ get_or-set_other ts p i t d other)) (has d))
               ]
-          ]
-        | inr last ↦ inr (subst (HasPartner ks (set (set ts p t) n u)) (is i less last) (of_right closes_it))
-      ] }
+            ]
+            | inr last ↦ inr (subst (HasPartner ks (set (set ts p t) n u)) (is i less last) (of_right closes_it))
+          ];
+        }
       where
         is : (i : ℕ) → i < n + 1 → n ≤ i → n ≡ i
         is i less last = omega (arith, less, last)
+
         of_left : Closes ks p n → HasPartner ks (set (set ts p t) n u) p
         of_left c d = subst (λ (v : Token). IsPartner ks p v.partner (get_or ks p Left))
             (sym (get_or-set_other (set ts p t) n p u d (λ e. omega (arith, e, c.later)) ∙ get_or-set_same ts p t d (omega (arith, c.later, there, same))))
             (subst (λ (m : ℕ). IsPartner ks p m (get_or ks p Left)) (sym t_is) (subst (IsPartner ks p n) (sym (begins ks p n c)) c))
+
         of_right : Closes ks p n → HasPartner ks (set (set ts p t) n u) n
         of_right c d = subst (λ (v : Token). IsPartner ks n v.partner (get_or ks n Left))
             (sym (get_or-set_same (set ts p t) n u d (omega (arith, there, same, length-set ts p t))))
@@ -260,7 +274,8 @@ is_tree old new text few placed whole same paired = record {
   few = omega (arith, few, len);
   placed = placed_bare 0 new text (subst (λ (ts : List Token). AreInPlace 0 ts text) (sym same) (bare_placed 0 old text placed));
   whole = subst (λ (n : ℕ). Closes (token_kinds new) 0 (n - 1)) len (subst (λ (ks : List Kind). Closes ks 0 (length old - 1)) (sym (same_kinds new old same)) whole);
-  paired = paired }
+  paired = paired;
+}
   where
     len : length old ≡ length new
     len = sym (length-bare old) ∙ ap length (sym same) ∙ length-bare new

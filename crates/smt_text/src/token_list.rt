@@ -52,7 +52,12 @@ impl TokenList {
     }
 
     /// Adds a token by its bytes in the script.
-    pub(crate) fn push(&mut self, kind: Kind, place: Place, spelling: &[u8]) -> Result<(), AllocError>
+    pub(crate) fn push(
+        &mut self,
+        kind: Kind,
+        place: Place,
+        spelling: &[u8],
+    ) -> Result<(), AllocError>
         ensures { OnOk result (self.new ≡ self.old
             ++ record { kind = kind; place = place; text = text_of kind spelling.now } ∷ []) }
     {

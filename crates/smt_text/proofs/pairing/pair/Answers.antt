@@ -1,4 +1,4 @@
-use Rattle.std.proofs.Common.{◌≡◌, ◌+◌, ◌-◌, ◌<◌, length, refl, ap, sym, ◌∙◌, arith, subst, List, ℕ}
+use Rattle.std.proofs.Common.{◌≡◌, ◌+◌, ◌-◌, length, sym, ◌∙◌, arith, subst, List, ℕ}
 use Rattle.smt_text.specs.Pairing.{token_kinds, Paired, HasPartner}
 use Rattle.smt_text.specs.Partners.{Closes}
 use Rattle.smt_text.specs.declared.token.Kind.{Kind}
@@ -21,11 +21,12 @@ loop-i-preserved c =
     let same : token_kinds c.loop-i.tokens ≡ token_kinds c.args.tokens.now = same_kinds c.loop-i.tokens c.args.tokens.now c.loop-i.invariant.same in
     record {
       paired = subst (λ (ks : List Kind). Paired ks c.pair_token.new.tokens c.pair_token.new.lefts.items (c.loop-i.i + 1)) same c.in_ok-pair_token.ensures.paired;
-      same = c.in_ok-pair_token.ensures.same ∙ c.loop-i.invariant.same }
+      same = c.in_ok-pair_token.ensures.same ∙ c.loop-i.invariant.same;
+    }
 
 pub returns-clause-paired : goal.returns-clause-paired
 returns-clause-paired c = λ i less.
     let same : token_kinds c.args.tokens.now ≡ token_kinds c.loop-i.tokens = sym (same_kinds c.loop-i.tokens c.args.tokens.now c.loop-i.invariant.same) in
     subst (λ (ks : List Kind). HasPartner ks c.loop-i.tokens i) same
-      (all_paired (token_kinds c.args.tokens.now) c.loop-i.tokens c.loop-i.lefts.items c.loop-i.i (omega (arith, length-token_kinds c.args.tokens.now))
-        (whole_kinds c.args.tokens.now c.requires.whole) c.loop-i.invariant.paired i (omega (arith, length-token_kinds c.args.tokens.now, less, c.loop-i.auto.tokens)))
+    (all_paired (token_kinds c.args.tokens.now) c.loop-i.tokens c.loop-i.lefts.items c.loop-i.i (omega (arith, length-token_kinds c.args.tokens.now))
+    (whole_kinds c.args.tokens.now c.requires.whole) c.loop-i.invariant.paired i (omega (arith, length-token_kinds c.args.tokens.now, less, c.loop-i.auto.tokens)))

@@ -1,12 +1,13 @@
--- Counts of parentheses, and the trees behind a list.
-use Rattle.std.proofs.Common.{◌≡◌, ℕ, zero, suc, ◌+◌, ◌-◌, ◌≤◌, ◌<◌, List, [], ◌∷◌, ◌++◌, length, take, drop, get_or, refl, ap, sym, ◌∙◌, arith, subst, add_assoc, length-append, length-drop}
+-- What follows of partners: which tokens they are, that there is one alone, and where the trees behind a list stand.
+use Rattle.std.proofs.lemmas.Bool.{cases_lt}
+use Rattle.std.proofs.Common.{inl, inr, Some, slice_get, ◌≡◌, ℕ, zero, suc, ◌+◌, ◌-◌, ◌≤◌, ◌<◌, List, [], ◌∷◌, ◌++◌, length, take, drop, get_or, refl, ap, sym, ◌∙◌, arith, subst, add_assoc, length-drop}
 use Rattle.std.proofs.Math.Seq.{take-suc, get_or-drop, drop-drop}
-use Rattle.std.proofs.lemmas.List.{drop_more, length-take-le}
+use Rattle.std.proofs.lemmas.List.{drop_more}
 use Rattle.smt_text.specs.Word.{Word}
 use Rattle.smt_text.specs.Partners.{kinds, opens, closes, opened, closed, span, Closes, IsWhole}
-use Rattle.smt_text.specs.Trees.{Trees, End, Token, Group, outer, outermost, before, ahead}
+use Rattle.smt_text.specs.Trees.{Trees, outer, before, ahead}
 use Rattle.smt_text.specs.declared.token.Kind.{Kind}
-use Rattle.smt_text.specs.declared.token.Kind.TheVariants.{Left, Right, Symbol, Keyword, Numeral, Decimal, Hex, Binary, Text}
+use Rattle.smt_text.specs.declared.token.Kind.TheVariants.{Left, Right}
 
 pub length-kinds : (words : List Word) → length (kinds words) ≡ length words
 length-kinds [] = refl
@@ -33,6 +34,7 @@ span_more ks p n before there =
   where
     one : n + 1 - p ≡ suc (n - p)
     one = omega (arith, before)
+
     at : p + (n - p) ≡ n
     at = omega (arith, before)
 
@@ -114,8 +116,11 @@ module _ (ks : List Kind) (i j : ℕ) (c : Closes ks i j) where
   behind k later = span_first ks i k later there ∙ ap (λ (x : Kind). x ∷ take (k - (i + 1)) (drop (i + 1) ks)) begins
 
   pub inside : (k : ℕ) → k ≤ j - (i + 1) → closed (take k (drop (i + 1) ks)) ≤ opened (take k (drop (i + 1) ks)) + 0
-  inside k less = omega (arith, subst (λ (xs : List Kind). closed xs < opened xs) (behind (k + (i + 1)) (omega arith) ∙ ap (λ (n : ℕ). Left ∷ take n (drop (i + 1) ks)) back)
-      (c.least (k + (i + 1)) (omega arith) (omega (arith, less, c.later))))
+  inside k less = omega (
+    arith,
+    subst (λ (xs : List Kind). closed xs < opened xs) (behind (k + (i + 1)) (omega arith) ∙ ap (λ (n : ℕ). Left ∷ take n (drop (i + 1) ks)) back)
+        (c.least (k + (i + 1)) (omega arith) (omega (arith, less, c.later))),
+  )
     where
       back : k + (i + 1) - (i + 1) ≡ k
       back = omega arith
@@ -126,12 +131,53 @@ module _ (ks : List Kind) (i j : ℕ) (c : Closes ks i j) where
       back : j + 1 - (i + 1) ≡ suc (j - (i + 1))
       back = omega (arith, c.later)
 
-pub ahead_behind : (words : List Word) (i j : ℕ) → Closes (kinds words) i j → ahead (drop (j + 1) words) ≡ outer (ahead (drop (i + 1) words))
+at_kind : (words : List Word) (i : ℕ) (word : Word) → slice_get words i ≡ Some word → get_or (kinds words) i Left ≡ word.kind
+at_kind [] i word is = cc
+at_kind (x ∷ words) zero word is = let same : x ≡ word = cc in ap (λ (w : Word). w.kind) same
+at_kind (x ∷ words) (suc i) word is = at_kind words i word is
+
+-- what is closed is a left parenthesis
+pub Closes-left : (words : List Word) (i j : ℕ) (word : Word) → Closes (kinds words) i j → slice_get words i ≡ Some word → word.kind ≡ Left
+Closes-left words i j word c is = sym (at_kind words i word is) ∙ begins (kinds words) i j c
+
+closing : (kind : Kind) (a b : ℕ) → a < b → a + closes kind ≡ b + opens kind → kind ≡ Right
+closing Left a b less even = absurd (omega (arith, less, even))
+closing Right a b less even = refl
+closing kind a b less even = absurd (omega (arith, less, even))
+
+-- what closes it is a right one
+pub Closes-right : (words : List Word) (i j : ℕ) (word : Word) → Closes (kinds words) i j → slice_get words j ≡ Some word → word.kind ≡ Right
+Closes-right words i j word c is = sym (at_kind words j word is)
+    ∙ closing (get_or (kinds words) j Left) (closed (span (kinds words) i j)) (opened (span (kinds words) i j)) (c.least j c.later (omega arith))
+    (sym (closed_more (kinds words) i j (omega (arith, c.later)) c.there) ∙ c.even ∙ opened_more (kinds words) i j (omega (arith, c.later)) c.there)
+
+not_below : (ks : List Kind) (i j k : ℕ) → Closes ks i j → Closes ks i k → j < k → ⊥
+not_below ks i j k first second less = omega (arith, first.even, second.least (j + 1) (omega (arith, first.later)) (omega (arith, less)))
+
+-- one parenthesis alone closes it
+pub Closes-one : (ks : List Kind) (i j k : ℕ) → Closes ks i j → Closes ks i k → j ≡ k
+Closes-one ks i j k first second = elim (cases_lt j k) [
+  | inl below ↦ absurd (not_below ks i j k first second below)
+  | inr above ↦ elim (cases_lt k j) [ inl below ↦ absurd (not_below ks i k j second first below) | inr same ↦ omega (arith, above, same) ]
+]
+
+-- a whole command has two tokens or more, the first a left parenthesis and the last a right one
+pub IsWhole-length : (words : List Word) → IsWhole words → 2 ≤ length words
+IsWhole-length words whole = omega (arith, whole.later, whole.there, length-kinds words)
+
+pub IsWhole-first : (words : List Word) (word : Word) → IsWhole words → slice_get words 0 ≡ Some word → word.kind ≡ Left
+IsWhole-first words word whole is = Closes-left words 0 (length words - 1) word whole is
+
+pub IsWhole-last : (words : List Word) (word : Word) → IsWhole words → slice_get words (length words - 1) ≡ Some word → word.kind ≡ Right
+IsWhole-last words word whole is = Closes-right words 0 (length words - 1) word whole is
+
+-- Behind a list the trees go on as they would behind its first parenthesis, one list further out.
+pub Closes-ahead : (words : List Word) (i j : ℕ) → Closes (kinds words) i j → ahead (drop (j + 1) words) ≡ outer (ahead (drop (i + 1) words))
 unfolding outers
-ahead_behind words i j c =
+Closes-ahead words i j c =
     ap (λ (n : ℕ). ahead (drop n words)) split ∙ ap ahead (sym (drop-drop (suc (j - (i + 1))) (i + 1) words))
     ∙ up (drop (i + 1) words) (j - (i + 1)) 0 (omega (arith, length-drop (i + 1) words, length-kinds words, c.there, c.later))
-        (λ k less. rw (kinds-drop (i + 1) words) (inside (kinds words) i j c k less)) (rw (kinds-drop (i + 1) words) (leaves (kinds words) i j c))
+    (λ k less. rw (kinds-drop (i + 1) words) (inside (kinds words) i j c k less)) (rw (kinds-drop (i + 1) words) (leaves (kinds words) i j c))
   where
     split : j + 1 ≡ i + 1 + suc (j - (i + 1))
     split = omega (arith, c.later)

@@ -1,22 +1,21 @@
 -- Each command of a script is whole.
-use Rattle.std.proofs.Common.{◌≡◌, ℕ, zero, suc, pred, ◌+◌, ◌-◌, ◌≤◌, ◌<◌, Bool, true, false, cond, not, List, [], ◌∷◌, ◌++◌, length, take, drop, refl, ap, sym, ◌∙◌, Option, Some, None, arith, subst, length-append, inl, inr, ◌⊎◌, ◌||◌}
+use Rattle.std.proofs.Common.{◌≡◌, ℕ, zero, suc, pred, ◌+◌, ◌-◌, ◌≤◌, ◌<◌, Bool, true, false, cond, not, List, [], ◌∷◌, ◌++◌, length, take, refl, ap, sym, ◌∙◌, Option, Some, None, arith, subst, length-append, inl, inr, ◌||◌}
 use Rattle.std.specs.Prelude.{nat_lt, ◌==◌, ◌&&◌}
 use Rattle.std.proofs.lemmas.Bool.Decides.{nat_tests}
 use Rattle.std.proofs.lemmas.Bool.{cases_lt}
 use Rattle.std.proofs.lemmas.List.{take-append-le, take_all}
 use Rattle.em_outside.specs.declared.limits.Limits.{Limits}
-use Rattle.smt_text.specs.Bytes.{is_stray, is_white, is_digit, is_symbol_byte}
+use Rattle.smt_text.specs.Bytes.{is_stray, is_white}
 use Rattle.smt_text.specs.Lexicon.{first_lexeme}
 use Rattle.smt_text.specs.Word.{Word}
-use Rattle.smt_text.specs.Script.{Script, End, Fault, Command, read_from, script_from, past_of, after_token, after_lexeme, at_end, place_after, text_of}
-use Rattle.smt_text.specs.Partners.{kinds, opens, closes, opened, closed, span, Closes, IsWhole, AllWhole}
+use Rattle.smt_text.specs.Script.{Script, read_from, script_from, past_of, after_token, after_lexeme, at_end, place_after, text_of}
+use Rattle.smt_text.specs.Partners.{kinds, opens, closes, opened, closed, span, IsWhole, AllWhole}
 use Rattle.smt_text.specs.declared.token.Kind.{Kind}
-use Rattle.smt_text.specs.declared.token.Kind.TheVariants.{Left, Right, Symbol, Keyword, Numeral, Decimal, Hex, Binary, Text}
+use Rattle.smt_text.specs.declared.token.Kind.TheVariants.{Left, Right}
 use Rattle.smt_text.specs.declared.token.Place.{Place}
-use Rattle.smt_text.specs.declared.byte_fault.ByteFault.TheVariants.{TooDeep, Stray}
 use Rattle.smt_text.specs.declared.lexicon.Lexeme.{Lexeme}
 use Rattle.smt_text.specs.declared.lexicon.Lexeme.TheVariants.{Blank, Token, Ill, Comment, Cut}
-use Rattle.smt_text.proofs.Partners.{length-kinds, opened-append, closed-append}
+use Rattle.smt_text.specs.PartnersLaws.{length-kinds, opened-append, closed-append}
 
 -- so many parentheses are open behind these tokens, and one or more behind each front of them
 record Nests (depth : ℕ) (ks : List Kind) : Type 0 where
@@ -37,7 +36,8 @@ nests_more d d' ks kind nests step some = record {
   least = λ k some_k few. elim (cases_lt (length ks) k) [
     | inl past ↦ subst (λ (xs : List Kind). closed xs < opened xs) (sym (take_all k (ks ++ kind ∷ []) (omega (arith, past, length-append ks (kind ∷ []))))) (omega (arith, deep, some))
     | inr within ↦ subst (λ (xs : List Kind). closed xs < opened xs) (sym (take-append-le k ks (kind ∷ []) within)) (nests.least k some_k within)
-  ] }
+  ];
+}
   where
     deep : opened (ks ++ kind ∷ []) ≡ closed (ks ++ kind ∷ []) + d'
     deep = omega (arith, opened-append ks (kind ∷ []), closed-append ks (kind ∷ []), nests.deep, step)
@@ -51,21 +51,28 @@ whole_word words word nests is = record {
   later = omega (arith, all, some);
   there = omega (arith, all, length-kinds (words ++ word ∷ []));
   even = subst (λ (xs : List Kind). closed xs ≡ opened xs) (sym (take_all (length (words ++ word ∷ []) - 1 + 1 - 0) (kinds (words ++ word ∷ [])) (omega (arith, all, length-kinds (words ++ word ∷ []))))) even;
-  least = λ k later within. subst (λ (xs : List Kind). closed xs < opened xs) (sym (front k within)) (nests.least k later (omega (arith, within, all, length-kinds words))) }
+  least = λ k later within. subst (λ (xs : List Kind). closed xs < opened xs) (sym (front k within)) (nests.least k later (omega (arith, within, all, length-kinds words)));
+}
   where
     all : length (words ++ word ∷ []) ≡ length words + 1
     all = length-append words (word ∷ [])
+
     none : (ks : List Kind) → length ks ≡ 0 → opened ks ≡ 0
     none [] len = refl
     none (k ∷ ks) len = absurd (omega (arith, len))
+
     some : 1 ≤ length words
     some = elim (cases_lt 0 (length words)) [ inl more ↦ more | inr zero_long ↦ absurd (omega (arith, nests.deep, none (kinds words) (omega (arith, zero_long, length-kinds words)))) ]
+
     closes_one : closes word.kind ≡ 1
     closes_one = ap closes is
+
     opens_none : opens word.kind ≡ 0
     opens_none = ap opens is
+
     even : closed (kinds (words ++ word ∷ [])) ≡ opened (kinds (words ++ word ∷ []))
     even = rw (kinds-append words (word ∷ [])) (omega (arith, opened-append (kinds words) (word.kind ∷ []), closed-append (kinds words) (word.kind ∷ []), nests.deep, closes_one, opens_none))
+
     front : (k : ℕ) → k ≤ length (words ++ word ∷ []) - 1 → span (kinds (words ++ word ∷ [])) 0 k ≡ take k (kinds words)
     front k within = ap (λ (n : ℕ). take n (kinds (words ++ word ∷ []))) from ∙ ap (take k) (kinds-append words (word ∷ []))
         ∙ take-append-le k (kinds words) (word.kind ∷ []) (omega (arith, within, all, length-kinds words))
@@ -95,12 +102,13 @@ token_whole deepest past rest depth words word Left is nests begin wholes =
     cond_whole (nat_lt depth deepest) _ _ (λ _. wholes (depth + 1) (words ++ word ∷ []) (nests_word depth (depth + 1) words word nests (rw is (omega arith)) (omega arith))) (λ _. tt)
 token_whole deepest past rest depth words word Right is nests begin wholes =
     cond_whole (depth == 1) _ _
-      (λ one. let P : ℕ → Type 0 = λ d. Nests d (kinds words) in
-        (whole_word words word (subst P (grind (arith, nat_tests, one)) nests) is, wholes 0 [] nests_none))
-      (λ more. wholes (depth - 1) (words ++ word ∷ []) (nests_word depth (depth - 1) words word nests (rw is (omega (arith, some, not_one more))) (omega (arith, some, not_one more))))
+    (λ one. let P : ℕ → Type 0 = λ d. Nests d (kinds words) in
+    (whole_word words word (subst P (grind (arith, nat_tests, one)) nests) is, wholes 0 [] nests_none))
+    (λ more. wholes (depth - 1) (words ++ word ∷ []) (nests_word depth (depth - 1) words word nests (rw is (omega (arith, some, not_one more))) (omega (arith, some, not_one more))))
   where
     some : 1 ≤ depth
     some = some_deep depth (λ none. cc (begin none))
+
     not_one : (depth == 1) ≡ false → (depth ≡ 1 → ⊥)
     not_one more one = cc (more, ap (λ (d : ℕ). d == 1) one)
 token_whole deepest past rest depth words word kind is nests begin wholes =
@@ -151,13 +159,14 @@ from_whole deepest past [] depth words skip place nests = end_whole past words
 from_whole deepest past (b ∷ bytes) depth words (suc skip) place nests = from_whole deepest past bytes depth words skip (place_after place b) nests
 from_whole deepest past (b ∷ bytes) depth words zero place nests =
     cond_whole (depth == 0 && is_stray b) _ _ (λ _. tt) (λ may.
-      lexeme_whole deepest past (λ d w n. read_from deepest past d w (pred n) (place_after place b) bytes) depth words place (b ∷ bytes) (first_lexeme (b ∷ bytes)) nests
-        (λ none. opens_one b bytes (b == 59) refl (no_stray none may)) (λ d w n. from_whole deepest past bytes d w (pred n) (place_after place b)))
+    lexeme_whole deepest past (λ d w n. read_from deepest past d w (pred n) (place_after place b) bytes) depth words place (b ∷ bytes) (first_lexeme (b ∷ bytes)) nests
+    (λ none. opens_one b bytes (b == 59) refl (no_stray none may)) (λ d w n. from_whole deepest past bytes d w (pred n) (place_after place b)))
   where
     no_stray : depth ≡ 0 → (depth == 0 && is_stray b) ≡ false → is_stray b ≡ false
     no_stray none may = subst (λ (d : ℕ). (d == 0 && is_stray b) ≡ false) none may
 
-pub all_whole : (limits : Limits) (place : Place) (before : ℕ) (bytes : List ℕ) → AllWhole (script_from limits place before bytes)
+-- each command of a script is whole
+pub script-whole : (limits : Limits) (place : Place) (before : ℕ) (bytes : List ℕ) → AllWhole (script_from limits place before bytes)
 unfolding script_from
-all_whole limits place before bytes =
+script-whole limits place before bytes =
     from_whole limits.depth (past_of (limits.bytes - before) place bytes) (take (limits.bytes - before) bytes) 0 [] 0 place nests_none
