@@ -135,3 +135,17 @@ fn a_fault_is_answered_again(rt: HostRuntime) -> Result<(), Fail> {
     assert_eq!(rt; ByteFault::Stray { place }.place(), place);
     Ok(())
 }
+
+#[test]
+fn simple_symbols_need_no_bars(rt: HostRuntime) {
+    for (name, simple) in [
+        ("a", true),
+        ("<=", true),
+        ("let", true),
+        ("", false),
+        ("1a", false),
+        ("a b", false),
+    ] {
+        assert_eq!(rt; is_simple(name.as_bytes()), simple, "{name}");
+    }
+}
