@@ -7,7 +7,7 @@ use Rattle.term_table.specs.declared.pattern_row.PatternRow.{PatternRow}
 use Rattle.term_table.specs.declared.pattern_row.PatternRow.TheVariants.{Var, App}
 use Rattle.term_table.specs.Trigger.{HasSize, HaveSize, variable, application, none, more}
 use Rattle.term_table.specs.Validity.{NameEarlier, IsSize, IsLarge}
-use Rattle.term_table.proofs.ListLemmas.{element_at, take-slice_get}
+use Rattle.term_table.specs.ListLaws.{element_at, take-slice_get}
 
 same_parts : (f g : ℕ) (ps qs : List ℕ) → App f ps ≡ App g qs → ps ≡ qs
 same_parts f g ps qs same = cc

@@ -1,5 +1,5 @@
 -- When a trigger is valid, from what is tested of it.
-use Rattle.std.proofs.Common.{◌≡◌, ◌⊎◌, ℕ, zero, suc, ◌+◌, ◌<◌, ◌≤◌, List, [], ◌∷◌, length, get_or, slice_get, ◌↔◌, Bool, true, false, true≢false, IsTrue, IfSome, is_some, Option, Some, None, All, Contains, sym, ap, subst, inl, inr, ◌∙◌, ⊎_elim, arith}
+use Rattle.std.proofs.Common.{◌≡◌, ℕ, zero, suc, ◌+◌, ◌<◌, ◌≤◌, List, [], ◌∷◌, length, get_or, slice_get, ◌↔◌, Bool, true, false, true≢false, IsTrue, IfSome, is_some, Option, Some, None, All, Contains, sym, ap, subst, inl, inr, ◌∙◌, ⊎_elim, arith}
 use Rattle.std.proofs.lemmas.Bool.{cases_lt}
 use Rattle.std.proofs.lemmas.Option.{slice_get_within, slice_get-get_or, get_or_from_slice_get}
 use Rattle.std.proofs.lemmas.List.Elements.{All-get_or, All-from_get_or, Contains-get_or}
@@ -7,8 +7,8 @@ use Rattle.term_table.specs.declared.pattern_row.PatternRow.{PatternRow}
 use Rattle.term_table.specs.declared.pattern_row.PatternRow.TheVariants.{Var, App}
 use Rattle.term_table.specs.declared.trigger.Trigger.{Trigger}
 use Rattle.term_table.specs.Trigger.{Occurs, at_root, below, HasSize, IsApplication, IsValid}
-use Rattle.term_table.specs.Validity.{AreApplications, AreNew, AreReached, AreSmall, FitRows, FitsRow, HaveVariables, IsPart, IsReached, IsSize, NameEarlier}
-use Rattle.term_table.proofs.ListLemmas.{element_at}
+use Rattle.term_table.specs.Validity.{AreApplications, AreNew, AreReached, AreSmall, FitRows, HaveVariables, IsPart, IsReached, IsSize, NameEarlier}
+use Rattle.term_table.specs.ListLaws.{element_at}
 use Rattle.term_table.proofs.SizeLemmas.{one_size}
 
 module _ {X : Type 0} where

@@ -1,5 +1,5 @@
 -- Which operations may be done, and what a standing list keeps to.
-use Rattle.std.specs.Prelude.{◌≡◌, ℕ, ◌<◌, ◌≤◌, List, length, take, Contains, All}
+use Rattle.std.specs.Prelude.{ℕ, ◌<◌, ◌≤◌, List, length, take, Contains, All}
 use Rattle.term_table.specs.declared.op.Op.{Op}
 use Rattle.term_table.specs.declared.op.Op.TheVariants.{Add, Merge, Differ, Live, Push, Pop}
 use Rattle.term_table.specs.declared.done.Done.{Done}

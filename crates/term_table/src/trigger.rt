@@ -4,7 +4,9 @@ ghost use Rattle.std.specs.Prelude.{◌≡◌, ◌≤◌, ◌↔◌, IfOk, IsTru
 use crate::memory::Memory;
 use crate::numbers::Numbers;
 use crate::pattern_rows::PatternRows;
-use crate::validity::{are_applications, are_new, are_reached, are_small, fit_rows, have_variables};
+use crate::validity::{
+    are_applications, are_new, are_reached, are_small, fit_rows, have_variables,
+};
 use std::alloc::Global;
 
 /// The patterns of one trigger of a forall: those that `roots` name, in order.

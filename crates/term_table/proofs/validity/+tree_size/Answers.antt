@@ -1,5 +1,5 @@
-use Rattle.std.proofs.Common.{◌<◌, ◌≡◌, ◌+◌, length, Some, slice_get, refl, sym, ap, ◌∙◌, arith}
-use Rattle.term_table.specs.declared.pattern_row.PatternRow.TheVariants.{Var, App}
+use Rattle.std.proofs.Common.{◌≡◌, ◌+◌, Some, slice_get, refl, ap, ◌∙◌, arith}
+use Rattle.term_table.specs.declared.pattern_row.PatternRow.TheVariants.{App}
 use Rattle.term_table.specs.Trigger.{none}
 use Rattle.term_table.proofs.SizeLemmas.{IsLarge-zero, IsSize-variable, part_below, HaveSize-more, IsLarge-part, IsSize-all}
 use Rattle.term_table.proofs.validity.+tree_size.Goals as goal

@@ -1,5 +1,5 @@
 use Rattle.std.proofs.Common.{◌++◌, ◌∷◌, [], ap₂, sym, ◌∙◌}
-use Rattle.term_table.proofs.ListLemmas.{take-slice_get}
+use Rattle.term_table.specs.ListLaws.{take-slice_get}
 use Rattle.term_table.proofs.pattern_rows.PatternRows.copy.Goals as goal
 
 pub loop-i-preserved : goal.loop-i-preserved
