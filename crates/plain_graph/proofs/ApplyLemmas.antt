@@ -1,8 +1,10 @@
 -- What one operation more does to the terms, the equations and the labels.
-use Rattle.std.proofs.Common.{◌≡◌, ℕ, ◌+◌, ◌<◌, ◌≤◌, ◌^◌, List, [], ◌∷◌, ◌++◌, length, take, drop, append-nil, refl, sym, ap, subst, ◌∙◌, ⊎_elim, arith}
+use Rattle.std.proofs.Common.{◌≡◌, ℕ, ◌+◌, ◌<◌, ◌≤◌, ◌^◌, List, [], ◌∷◌, ◌++◌, length, take, drop, append-nil, refl, sym, ap, subst, ◌∙◌, ⊎_elim, Bool, cond, arith}
 use Rattle.std.specs.List.{filter_map}
 use Rattle.std.proofs.lemmas.List.{length-append, length-take, take-append-le, take_all, take-append-drop, take-take}
 use Rattle.std.proofs.lemmas.Bool.{cases_lt}
+use Rattle.std.proofs.lemmas.List.Sums.{sum_by-append}
+use Rattle.plain_graph.specs.Operations.{AllowsOpRow, levels_opened}
 use Rattle.term_table.specs.Same.{Derives, same_term}
 use Rattle.std.proofs.lemmas.List.Elements.{filter_map-append, Contains-append_cases, Contains-push_cases}
 use Rattle.term_table.specs.declared.term_row.TermRow.{TermRow}
@@ -10,38 +12,14 @@ use Rattle.term_table.specs.declared.done.Done.{Done}
 use Rattle.term_table.specs.declared.op.Op.{Op}
 use Rattle.term_table.specs.declared.op.Op.TheVariants.{Add, Merge, Differ, Live, Push, Pop}
 use Rattle.term_table.specs.Terms.{term_row, first_rows, IsTable}
-use Rattle.term_table.specs.Standing.{added_row, merged_ends, terms_of, merges_of, rows_added, merges_added, labels_added}
-use Rattle.plain_graph.specs.Labels.{AreOwn, label_of, AreSound, AreMerged, AreCongruent, EndsBelow}
-use Rattle.term_table.specs.Graph.{Allows, AllowsRow, AllowsEnds, IsLawful}
+use Rattle.term_table.specs.Standing.{added_row, is_push, levels_of, terms_of, merges_of, rows_added, merges_added}
+use Rattle.plain_graph.specs.Labels.{labels_added}
+use Rattle.plain_graph.specs.Labels.{AreOwn, label_of, AreSound, AreMerged, AreCongruent}
+use Rattle.term_table.specs.Lawful.{EndsBelow}
+use Rattle.term_table.specs.Lawful.{Allows, IsLawful}
 use Rattle.plain_graph.specs.PlainInside.{AreKept}
-use Rattle.plain_graph.proofs.TableLemmas.{IsTable-first, IsTable-push}
-use Rattle.plain_graph.proofs.GraphLemmas.{EndsBelow-none}
+use Rattle.term_table.specs.LawfulLaws.{terms_of-push, merges_of-push, IsLawful-first, IsLawful-take, IsLawful-push}
 use Rattle.plain_graph.proofs.SameLemmas.{AreSound-merges, AreSound-row}
-
-module _ (standing : List Done) (serial : ℕ) where
-  -- the terms after one operation more
-  pub terms_of-push : (op : Op) → terms_of (standing ++ record { serial = serial; op = op } ∷ []) ≡ terms_of standing ++ rows_added op
-  terms_of-push op = ap (λ rows. first_rows ++ rows) (filter_map-append added_row standing (record { serial = serial; op = op } ∷ []) ∙ ap (λ rows. filter_map added_row standing ++ rows) (each op))
-    where
-      each : (op : Op) → filter_map added_row (record { serial = serial; op = op } ∷ []) ≡ rows_added op
-      each (Add symbol args) = refl
-      each (Merge left right) = refl
-      each (Differ left right) = refl
-      each (Live trigger) = refl
-      each Push = refl
-      each Pop = refl
-
-  -- and the equations
-  pub merges_of-push : (op : Op) → merges_of (standing ++ record { serial = serial; op = op } ∷ []) ≡ merges_of standing ++ merges_added op
-  merges_of-push op = filter_map-append merged_ends standing (record { serial = serial; op = op } ∷ []) ∙ ap (λ merges. filter_map merged_ends standing ++ merges) (each op)
-    where
-      each : (op : Op) → filter_map merged_ends (record { serial = serial; op = op } ∷ []) ≡ merges_added op
-      each (Add symbol args) = refl
-      each (Merge left right) = refl
-      each (Differ left right) = refl
-      each (Live trigger) = refl
-      each Push = refl
-      each Pop = refl
 
 module _ (rows : List TermRow) (merges : List (ℕ × ℕ)) (labels : List ℕ) where
   -- where nothing comes
@@ -61,32 +39,6 @@ module _ (rows : List TermRow) (merges : List (ℕ × ℕ)) (labels : List ℕ) 
   AreSound-after Push sound = unchanged sound
   AreSound-after Pop sound = unchanged sound
 
-  -- the terms stay a table
-  pub IsTable-after : (op : Op) → AllowsRow rows op → IsTable rows → IsTable (rows ++ rows_added op)
-  IsTable-after (Add symbol args) allowed table = IsTable-push rows (term_row symbol args) allowed.0 allowed.1 allowed.2 table
-  IsTable-after (Merge left right) allowed table = subst IsTable (sym (append-nil rows)) table
-  IsTable-after (Differ left right) allowed table = subst IsTable (sym (append-nil rows)) table
-  IsTable-after (Live trigger) allowed table = subst IsTable (sym (append-nil rows)) table
-  IsTable-after Push allowed table = subst IsTable (sym (append-nil rows)) table
-  IsTable-after Pop allowed table = subst IsTable (sym (append-nil rows)) table
-
-  -- the ends of an operation's equation are below the bound
-  added_ends : (bound : ℕ) (op : Op) → AllowsEnds bound op → EndsBelow (merges_added op) bound
-  added_ends bound (Merge left right) allowed s t c = ⊎_elim (λ none. absurd (omega (arith, none.1))) (λ e. (subst (λ (p : ℕ × ℕ). (p.0 < bound) × (p.1 < bound)) e allowed)) (Contains-push_cases [] (left, right) (s, t) c)
-  added_ends bound (Add symbol args) allowed s t c = absurd (omega (arith, c.1))
-  added_ends bound (Differ left right) allowed s t c = absurd (omega (arith, c.1))
-  added_ends bound (Live trigger) allowed s t c = absurd (omega (arith, c.1))
-  added_ends bound Push allowed s t c = absurd (omega (arith, c.1))
-  added_ends bound Pop allowed s t c = absurd (omega (arith, c.1))
-
-  -- equations stay between terms
-  pub EndsBelow-after : (op : Op) → AllowsEnds (length rows) op → EndsBelow merges (length rows) → EndsBelow (merges ++ merges_added op) (length (rows ++ rows_added op))
-  EndsBelow-after op allowed ends s t c =
-      let longer = length-append rows (rows_added op) in
-      ⊎_elim (λ old. let h = ends s t old in (omega (arith, h.0, longer), omega (arith, h.1, longer)))
-      (λ new. let h = added_ends (length rows) op allowed s t new in (omega (arith, h.0, longer), omega (arith, h.1, longer)))
-      (Contains-append_cases merges (merges_added op) (s, t) c)
-
 -- what is kept, before the labels are closed
 module _ (rows new_rows : List TermRow) (standing new_standing : List Done) (labels new_labels : List ℕ) (serial : ℕ) (op : Op) (kept : AreKept rows standing labels) (allowed : Allows standing op)
     (rows_are : new_rows ≡ rows ++ rows_added op) (standing_is : new_standing ≡ standing ++ record { serial = serial; op = op } ∷ []) (labels_are : new_labels ≡ labels ++ labels_added (length rows) op) where
@@ -100,10 +52,7 @@ module _ (rows new_rows : List TermRow) (standing new_standing : List Done) (lab
   rows_are_terms = rows_are ∙ ap (λ r. r ++ rows_added op) kept.terms ∙ sym terms_are
 
   pub lawful_after : IsLawful new_standing
-  lawful_after = record {
-    table = subst IsTable (sym terms_are) (IsTable-after (terms_of standing) (merges_of standing) labels op allowed.row kept.lawful.table);
-    ends = subst (λ r. EndsBelow (merges_of new_standing) (length r)) (sym terms_are) (subst (λ m. EndsBelow m (length (terms_of standing ++ rows_added op))) (sym merges_are) (EndsBelow-after (terms_of standing) (merges_of standing) labels op allowed.ends kept.lawful.ends));
-  }
+  lawful_after = subst IsLawful (sym standing_is) (IsLawful-push standing serial op kept.lawful allowed)
 
   pub sound_after : AreSound (terms_of new_standing) (merges_of new_standing) new_labels
   sound_after =
@@ -114,7 +63,7 @@ module _ (rows new_rows : List TermRow) (standing new_standing : List Done) (lab
 
   -- what `close` requires, over the table's rows
   pub ends_before_close : EndsBelow (merges_of new_standing) (length new_rows)
-  ends_before_close = subst (λ r. EndsBelow (merges_of new_standing) (length r)) (sym rows_are_terms) lawful_after.ends
+  ends_before_close = subst (λ r. EndsBelow (merges_of new_standing) (length r)) (sym rows_are_terms) lawful_after.whole.ends
 
   pub sound_before_close : AreSound new_rows (merges_of new_standing) new_labels
   sound_before_close = subst (λ r. AreSound r (merges_of new_standing) new_labels) (sym rows_are_terms) sound_after
@@ -128,10 +77,6 @@ module _ (rows new_rows : List TermRow) (standing new_standing : List Done) (lab
     merged = merged;
     congruent = subst (λ r. AreCongruent r closed) rows_are_terms congruent;
     few = few;
-    fronts = λ k. ⊎_elim
-        (λ inside. subst IsLawful (sym (ap (take k) standing_is ∙ take-append-le k standing (record { serial = serial; op = op } ∷ []) (omega arith))) (kept.fronts k))
-        (λ past. subst IsLawful (sym (take_all k new_standing (omega (arith, ap length standing_is, length-append standing (record { serial = serial; op = op } ∷ []))))) lawful_after)
-        (cases_lt k (length standing + 1));
   }
 
 -- what the last operation of a list added
@@ -163,7 +108,7 @@ module _ (rows : List TermRow) (standing : List Done) (labels : List ℕ) (kept 
       ∙ take_all (length (terms_of left)) (terms_of left) (omega arith)
 
   pub lawful_left : IsLawful left
-  lawful_left = subst IsLawful (sym left_is) (kept.fronts n)
+  lawful_left = subst IsLawful (sym left_is) (IsLawful-take n standing kept.lawful)
 
   pub AreKept-left : (new_rows : List TermRow) (closed : List ℕ) → new_rows ≡ terms_of left → AreSound new_rows (merges_of left) closed → AreMerged (merges_of left) closed → AreCongruent new_rows closed → AreKept new_rows left closed
   AreKept-left new_rows closed rows_are sound merged congruent = record {
@@ -173,23 +118,57 @@ module _ (rows : List TermRow) (standing : List Done) (labels : List ℕ) (kept 
     merged = merged;
     congruent = subst (λ r. AreCongruent r closed) rows_are congruent;
     few = omega (arith, ap length left_is, length-take n standing, kept.few);
-    fronts = λ k. ⊎_elim
-        (λ below. subst IsLawful (sym (ap (take k) left_is ∙ take-take k n standing (omega arith))) (kept.fronts k))
-        (λ past. subst IsLawful (sym (ap (take k) left_is ∙ take_all k (take n standing) (omega (arith, length-take n standing)))) (kept.fronts n))
-        (cases_lt k n);
   }
 
 -- what is kept at first
 pub AreKept-first : (rows : List TermRow) (labels : List ℕ) → rows ≡ first_rows → AreSound rows [] labels → AreMerged [] labels → AreCongruent rows labels → AreKept rows [] labels
 AreKept-first rows labels is sound merged congruent = record {
-  lawful = lawful;
+  lawful = IsLawful-first;
   terms = is;
   sound = subst (λ r. AreSound r [] labels) is sound;
   merged = merged;
   congruent = subst (λ r. AreCongruent r labels) is congruent;
   few = omega arith;
-  fronts = λ k. subst IsLawful (sym (take_all k [] (omega arith))) lawful;
 }
+
+-- how many levels are open after one operation more
+pub levels_of-push : (standing longer : List Done) (done : Done) → longer ≡ standing ++ done ∷ [] → levels_of longer ≡ levels_of standing + levels_opened done.op
+levels_of-push standing longer done is = ap levels_of is ∙ sum_by-append (λ d. cond (is_push d) 1 0) standing (done ∷ []) ∙ ap (λ n. levels_of standing + n) (each done.op)
   where
-    lawful : IsLawful []
-    lawful = record { table = IsTable-first; ends = EndsBelow-none 2 }
+    each : (op : Op) → levels_of (record { serial = done.serial; op = op } ∷ []) ≡ levels_opened op
+    each (Add symbol args) = refl
+    each (Merge left right) = refl
+    each (Differ left right) = refl
+    each (Live trigger) = refl
+    each Push = refl
+    each Pop = refl
+
+-- an operation opens at most one level
+pub levels_opened-few : (op : Op) → levels_opened op ≤ 1
+levels_opened-few (Add symbol args) = omega arith
+levels_opened-few (Merge left right) = omega arith
+levels_opened-few (Differ left right) = omega arith
+levels_opened-few (Live trigger) = omega arith
+levels_opened-few Push = omega arith
+levels_opened-few Pop = omega arith
+
+-- an operation that opens a level opens one
+pub levels_opened-push : (done : Done) (b : Bool) → is_push done ≡ b → levels_opened done.op ≡ cond b 1 0
+levels_opened-push done b is = each done.op ∙ ap (λ c. cond c 1 0) is
+  where
+    each : (op : Op) → levels_opened op ≡ cond (is_push (record { serial = done.serial; op = op })) 1 0
+    each (Add symbol args) = refl
+    each (Merge left right) = refl
+    each (Differ left right) = refl
+    each (Live trigger) = refl
+    each Push = refl
+    each Pop = refl
+
+-- the row that an allowed operation adds
+pub AllowsOpRow-allowed : (standing : List Done) (op : Op) → Allows standing op → AllowsOpRow (terms_of standing) op
+AllowsOpRow-allowed standing (Add symbol args) allowed = allowed
+AllowsOpRow-allowed standing (Merge left right) allowed = tt
+AllowsOpRow-allowed standing (Differ left right) allowed = tt
+AllowsOpRow-allowed standing (Live trigger) allowed = tt
+AllowsOpRow-allowed standing Push allowed = tt
+AllowsOpRow-allowed standing Pop allowed = tt

@@ -9,13 +9,14 @@ use Rattle.term_table.specs.declared.done.Done.{Done}
 use Rattle.term_table.specs.Terms.{term_row, first_rows}
 use Rattle.term_table.specs.Standing.{terms_of, merges_of}
 use Rattle.term_table.specs.Same.{Derives, same_term, turned, joined, merged, congruent, Same, IsLeader}
-use Rattle.plain_graph.specs.Labels.{label_of, AreSound, AreMerged, AreCongruent, EndsBelow}
-use Rattle.plain_graph.specs.declared.plain_graph.Pick.{Pick}
-use Rattle.plain_graph.specs.declared.plain_graph.Pick.TheVariants.{Class, Symbol, Parent}
+use Rattle.plain_graph.specs.Labels.{label_of, AreSound, AreMerged, AreCongruent}
+use Rattle.term_table.specs.Lawful.{EndsBelow}
+use Rattle.plain_graph.specs.declared.pick.Pick.{Pick}
+use Rattle.plain_graph.specs.declared.pick.Pick.TheVariants.{Class, Symbol, Parent}
 use Rattle.plain_graph.specs.Picks.{IsPicked}
-use Rattle.term_table.specs.Graph.{AreAll}
+use Rattle.term_table.specs.Questions.{AreAll}
 use Rattle.plain_graph.proofs.SameLemmas.{one_label, derive}
-use Rattle.plain_graph.proofs.ListLemmas.{get_or-any, slice_get-push, slice_get-push_other}
+use Rattle.term_table.specs.ListLaws.{get_or-any, slice_get-push, slice_get-push_other}
 
 -- what is derived is about terms
 pub derives_terms : {rows : List TermRow} {merges : List (ℕ × ℕ)} → EndsBelow merges (length rows) → {s t : ℕ} → Derives rows merges s t → (s < length rows) × (t < length rows)
@@ -111,7 +112,3 @@ AreSound-first = record { each_term = refl; derived = derived; no_later = no_lat
     own zero h = refl
     own (suc zero) h = refl
     own (suc (suc term)) h = absurd (omega arith)
-
--- no equation stands at first
-pub EndsBelow-none : (n : ℕ) → EndsBelow [] n
-EndsBelow-none n s t c = absurd (omega (arith, c.1))

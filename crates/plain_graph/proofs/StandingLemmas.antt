@@ -4,7 +4,7 @@ use Rattle.std.specs.List.{filter_map, cons_option}
 use Rattle.std.proofs.lemmas.Option.{none-some, same_Some}
 use Rattle.std.proofs.lemmas.List.{take_more, take-append-drop, length-append}
 use Rattle.std.specs.Option.{option_map}
-use Rattle.plain_graph.proofs.ListLemmas.{slice_get-append_left, slice_get-push}
+use Rattle.term_table.specs.ListLaws.{slice_get-append_left, slice_get-push}
 use Rattle.std.proofs.lemmas.List.Elements.{Contains-get_or, Contains-append_right, Contains-append_cases, filter_map-append}
 use Rattle.term_table.specs.declared.done.Done.{Done}
 use Rattle.term_table.specs.Standing.{merged_ends, merges_of}

@@ -1,7 +1,9 @@
 -- Labels on terms, one to each class.
-use Rattle.std.specs.Prelude.{◌≡◌, ◌≢◌, ℕ, ◌<◌, ◌≤◌, List, length, map, slice_index, Contains, ◌==◌, if◌then◌else◌, min, max}
+use Rattle.std.specs.Prelude.{◌≡◌, ◌≢◌, ℕ, ◌<◌, ◌≤◌, List, [], ◌∷◌, length, map, slice_index, Contains, ◌==◌, if◌then◌else◌, min, max}
 use Rattle.term_table.specs.declared.term_row.TermRow.{TermRow}
 use Rattle.term_table.specs.Terms.{term_row, HasRow}
+use Rattle.term_table.specs.declared.op.Op.{Op}
+use Rattle.term_table.specs.declared.op.Op.TheVariants.{Add}
 use Rattle.term_table.specs.Same.{Derives}
 
 -- the label of a term
@@ -38,10 +40,6 @@ pub record AreToJoin (rows : List TermRow) (merges : List (ℕ × ℕ)) (labels 
   pub derived : Derives rows merges s t
   pub apart : label_of labels s ≢ label_of labels t
 
--- the ends of each equation are below the number
-abbrev pub EndsBelow : List (ℕ × ℕ) → ℕ → Type 0
-EndsBelow merges bound = (s t : ℕ) → Contains merges (s, t) → (s < bound) × (t < bound)
-
 -- the label in place of this one, where one of two is gone
 abbrev pub renamed_label : ℕ → ℕ → ℕ → ℕ
 renamed_label gone kept label = if label == gone then kept else label
@@ -57,3 +55,7 @@ joined_labels left right labels = relabelled (max left right) (min left right) l
 -- each term has itself as its label
 abbrev pub AreOwn : List ℕ → Type 0
 AreOwn labels = (term : ℕ) → term < length labels → label_of labels term ≡ term
+
+-- the labels that come with the terms that an operation adds: a new term is its own class
+abbrev pub labels_added : ℕ → Op → List ℕ
+labels_added terms op = elim op [ Add symbol args ↦ terms ∷ [] | _ ↦ [] ]

@@ -1,10 +1,10 @@
 -- Which terms a question of a graph picks.
 use Rattle.std.specs.Prelude.{ℕ, ◌<◌, List, length}
 use Rattle.term_table.specs.declared.done.Done.{Done}
-use Rattle.plain_graph.specs.declared.plain_graph.Pick.{Pick}
-use Rattle.plain_graph.specs.declared.plain_graph.Pick.TheVariants.{Class, Symbol, Parent}
+use Rattle.plain_graph.specs.declared.pick.Pick.{Pick}
+use Rattle.plain_graph.specs.declared.pick.Pick.TheVariants.{Class, Symbol, Parent}
 use Rattle.term_table.specs.Standing.{terms_of}
-use Rattle.term_table.specs.Graph.{HasSymbol, InClass, IsParent}
+use Rattle.term_table.specs.Questions.{HasSymbol, InClass, IsParent}
 
 -- the question picks the term
 abbrev pub IsPicked : List Done → Pick → ℕ → Type 0

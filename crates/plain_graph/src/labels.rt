@@ -2,10 +2,10 @@
 ghost use Rattle.std.specs.Prelude.{◌≡◌, ◌^◌, ◌≢◌, ℕ, ◌<◌, ◌≤◌, length, map, sum, All, Contains, IfSome, IfNone, IsTrue, ◌↔◌};
 ghost use Rattle.term_table.specs.Terms.{term_row, HasRow};
 ghost use Rattle.term_table.specs.Standing.{merges_of};
-ghost use Rattle.plain_graph.specs.Labels.{AreOwn, label_of, AreMerged, AreCongruent, AreToJoin, AreSound, EndsBelow, IsCongruentPair, IsCongruentToAll, joined_labels, relabelled, renamed_label};
+ghost use Rattle.plain_graph.specs.Labels.{AreOwn, label_of, AreMerged, AreCongruent, AreToJoin, AreSound, IsCongruentPair, IsCongruentToAll, joined_labels, relabelled, renamed_label};
+ghost use Rattle.term_table.specs.Lawful.{EndsBelow};
 
-use crate::operation::Done;
-use crate::table::TermTable;
+use term_table::{Done, TermTable};
 
 /// The label in place of this one.
 fn renamed(label: u32, gone: u32, kept: u32) -> u32

@@ -8,19 +8,8 @@ use Rattle.term_table.specs.declared.pattern_row.PatternRow.TheVariants.{Var, Ap
 use Rattle.term_table.specs.declared.trigger.Trigger.{Trigger}
 use Rattle.term_table.specs.Trigger.{Occurs, at_root, below, HasSize, IsApplication, IsValid}
 use Rattle.term_table.specs.Validity.{AreApplications, AreNew, AreReached, AreSmall, FitRows, HaveVariables, IsPart, IsReached, IsSize, NameEarlier}
-use Rattle.term_table.specs.ListLaws.{element_at}
+use Rattle.term_table.specs.ListLaws.{element_at, place_from_Contains, Contains-slice_get, All-slice_get}
 use Rattle.term_table.proofs.SizeLemmas.{one_size}
-
-module _ {X : Type 0} where
-  -- an element stands at a place
-  pub place_from_Contains : (xs : List X) (x : X) → Contains xs x → (i : ℕ) × (slice_get xs i ≡ Some x)
-  place_from_Contains xs x c = (c.0, slice_get-get_or xs c.0 x c.1 ∙ ap Some c.2)
-
-  pub Contains-slice_get : (xs : List X) (i : ℕ) (x : X) → slice_get xs i ≡ Some x → Contains xs x
-  Contains-slice_get xs i x at = subst (Contains xs) (get_or_from_slice_get xs i x x at) (Contains-get_or xs i x (slice_get_within xs i x at))
-
-  pub All-slice_get : (P : X → Type 0) (xs : List X) (i : ℕ) (x : X) → All P xs → slice_get xs i ≡ Some x → P x
-  All-slice_get P xs i x all at = subst P (get_or_from_slice_get xs i x x at) (All-get_or P xs i x (slice_get_within xs i x at) all)
 
 -- what holds of each number at a place holds of all
 pub All-from_slice_get : (P : ℕ → Type 0) (xs : List ℕ) → ((i x : ℕ) → slice_get xs i ≡ Some x → P x) → All P xs

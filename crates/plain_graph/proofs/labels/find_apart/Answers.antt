@@ -1,7 +1,7 @@
 use Rattle.std.proofs.Common.{sym, subst}
 use Rattle.term_table.specs.Standing.{merges_of}
 use Rattle.term_table.specs.Same.{merged}
-use Rattle.plain_graph.specs.Labels.{EndsBelow}
+use Rattle.term_table.specs.Lawful.{EndsBelow}
 use Rattle.plain_graph.proofs.SameLemmas.{to_join-found}
 use Rattle.plain_graph.proofs.labels.find_apart.Goals as goal
 

@@ -1,5 +1,5 @@
 use Rattle.std.proofs.Common.{◌∙◌, ap, set, arith, get_or, length, ◌<◌}
-use Rattle.plain_graph.proofs.ListLemmas.{get_or-any}
+use Rattle.term_table.specs.ListLaws.{get_or-any}
 use Rattle.std.proofs.lemmas.List.Edits.{map_over_more}
 use Rattle.plain_graph.specs.Labels.{renamed_label}
 use Rattle.plain_graph.proofs.labels.relabel.Goals as goal
