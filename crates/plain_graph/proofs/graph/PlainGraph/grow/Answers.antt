@@ -46,14 +46,17 @@ invariant_of-self-2 c =
     let few : length c.as_slice.result.now < 2 ^ 32 = omega (arith, c.as_slice.ensures.len, c.push_reserved.ensures.len, c.reserve.ensures.len, c.if-len.false, c.len.ensures) in
     let more = levels_of-push c.self.inside.standing.items c.push_reserved.new.self.items (record { serial = c.self.inside.done; op = c.args.op }) (c.push_reserved.ensures.items ∙ ap (λ items. items ++ record { serial = c.self.inside.done; op = c.args.op } ∷ []) c.reserve.ensures.items) in
     let one = levels_opened-few c.args.op in
-    record { kept =
-    subst (λ labels. AreKept c.enter.new.table.rows c.push_reserved.new.self.items labels) (sym (refilled c.enter.new.labels.len c.close.new.labels c.enter.new.labels.items (c.close.auto.labels ∙ c.as_mut_slice.ensures.len)))
-    (subst (λ standing. AreKept c.enter.new.table.rows standing c.close.new.labels) c.as_slice.ensures.value
-    (AreKept-after c.self.inside.table.rows c.enter.new.table.rows c.self.inside.standing.items c.as_slice.result.now c.self.inside.labels.items c.as_mut_slice.result.now c.self.inside.done c.args.op c.self.invariant.kept
-    (subst (λ (s : GraphState). Allows s.standing c.args.op) (sym c.self.view_is) c.requires.allowed) c.in_ok-enter.ensures.rows standing_is
-    (c.as_mut_slice.ensures.value ∙ c.in_ok-enter.ensures.labels)
-    c.close.new.labels c.close.ensures.sound c.close.ensures.merged c.close.ensures.congruent few));
-      levels = omega (arith, more, c.levels_added.ensures, c.self.invariant.levels); room = omega (arith, one, c.levels_added.ensures, c.self.invariant.room) }
+    record {
+      kept =
+          subst (λ labels. AreKept c.enter.new.table.rows c.push_reserved.new.self.items labels) (sym (refilled c.enter.new.labels.len c.close.new.labels c.enter.new.labels.items (c.close.auto.labels ∙ c.as_mut_slice.ensures.len)))
+          (subst (λ standing. AreKept c.enter.new.table.rows standing c.close.new.labels) c.as_slice.ensures.value
+          (AreKept-after c.self.inside.table.rows c.enter.new.table.rows c.self.inside.standing.items c.as_slice.result.now c.self.inside.labels.items c.as_mut_slice.result.now c.self.inside.done c.args.op c.self.invariant.kept
+          (subst (λ (s : GraphState). Allows s.standing c.args.op) (sym c.self.view_is) c.requires.allowed) c.in_ok-enter.ensures.rows standing_is
+          (c.as_mut_slice.ensures.value ∙ c.in_ok-enter.ensures.labels)
+          c.close.new.labels c.close.ensures.sound c.close.ensures.merged c.close.ensures.congruent few));
+      levels = omega (arith, more, c.levels_added.ensures, c.self.invariant.levels);
+      room = omega (arith, one, c.levels_added.ensures, c.self.invariant.room);
+    }
 
 pub enter-requires : goal.enter-requires
 enter-requires c =

@@ -16,8 +16,11 @@ close-requires-clause-sound c =
 pub invariant_of-result : goal.invariant_of-result
 invariant_of-result c =
     let len : length c.close.new.labels ≡ c.push-2.new.self.len = c.close.auto.labels ∙ c.as_mut_slice.ensures.len in
-    record { kept =
-    subst (AreKept c.in_ok-table.table.rows c.new-2.result.items) (sym (refilled c.push-2.new.self.len c.close.new.labels c.push-2.new.self.items len))
-    (subst (λ standing. AreKept c.in_ok-table.table.rows standing c.close.new.labels) (sym c.new-2.ensures.items)
-    (AreKept-first c.in_ok-table.table.rows c.close.new.labels c.in_ok-table.ensures.rows c.close.ensures.sound c.close.ensures.merged c.close.ensures.congruent));
-      levels = ap levels_of (sym c.new-2.ensures.items); room = omega arith }
+    record {
+      kept =
+          subst (AreKept c.in_ok-table.table.rows c.new-2.result.items) (sym (refilled c.push-2.new.self.len c.close.new.labels c.push-2.new.self.items len))
+          (subst (λ standing. AreKept c.in_ok-table.table.rows standing c.close.new.labels) (sym c.new-2.ensures.items)
+          (AreKept-first c.in_ok-table.table.rows c.close.new.labels c.in_ok-table.ensures.rows c.close.ensures.sound c.close.ensures.merged c.close.ensures.congruent));
+      levels = ap levels_of (sym c.new-2.ensures.items);
+      room = omega arith;
+    }
