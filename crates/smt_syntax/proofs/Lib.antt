@@ -1,1 +1,8 @@
 mod Examples
+pub mod Entries
+pub mod FunctionLemmas
+pub mod RowLemmas
+pub mod CursorLemmas
+pub mod MachineLemmas
+pub mod SessionLemmas
+pub mod NumberLemmas

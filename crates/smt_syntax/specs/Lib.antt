@@ -10,3 +10,5 @@ pub mod RowKeys
 pub mod SessionInside
 pub mod Changes
 pub mod Calls
+pub mod Cursor
+pub mod Machine

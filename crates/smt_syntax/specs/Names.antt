@@ -26,6 +26,10 @@ is_keyword kind = false
 abbrev pub is_word : List ℕ → Word → Bool
 is_word text word = is_symbol word.kind && bytes_eq word.text text
 
+-- the numeral 0
+abbrev pub is_zero : Word → Bool
+is_zero word = is_numeral word.kind && bytes_eq word.text (codes "0")
+
 -- the names that are never declared or bound
 unfoldable pub is_reserved : List ℕ → Bool
 is_reserved name = list_any (bytes_eq name) (codes "!" ∷ codes "_" ∷ codes "as" ∷ codes "exists" ∷ codes "forall" ∷ codes "let" ∷ codes "match" ∷ codes "par" ∷ [])

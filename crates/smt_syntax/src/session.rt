@@ -2,15 +2,22 @@
 ghost use Rattle.std.specs.Prelude.{◌≡◌, ◌<◌, ◌≤◌, ◌+◌, ◌-◌, ◌^◌, length, IfOk, IfErr, OnErr, OnOk, option_copied};
 ghost use Rattle.smt_text.specs.declared.token.Place.{Place};
 ghost use Rattle.smt_syntax.specs.State.{start, symbol_name, with_levels, without_levels};
-ghost use Rattle.smt_syntax.specs.Calls.{FaultOf};
+ghost use Rattle.smt_syntax.specs.Commands.{effect_of};
+ghost use Rattle.smt_syntax.specs.Cursor.{word_at, here};
+ghost use Rattle.smt_syntax.specs.Calls.{FaultOf, Gives};
 ghost use Rattle.smt_syntax.specs.Changes.{IsAllowed, Plans, Changed};
 ghost use Rattle.smt_syntax.specs.Shapes.{HasShape};
 ghost use Rattle.smt_syntax.specs.Elaborate.{command_of, first_place, place_at, Elaborates, Refuses};
 
+use crate::assertions::read_assertion;
 use crate::command::Command;
+use crate::cursor::{has_end, has_headed, is_word_at};
+use crate::declarations::{read_constant, read_function, read_sort};
 use crate::effect::Effect;
 use crate::fault::{Refusal, SyntaxFault};
 use crate::functions::Functions;
+use crate::levels::{read_pop, read_push};
+use crate::validity::asserts_valid;
 use em_outside::Limits;
 use smt_text::{Place, Tree};
 use std::alloc::Global;
@@ -67,8 +74,10 @@ impl Session {
         ensures ok { IfOk result (λ session. session ≡ start limits.now) }
         ensures err { IfErr result (λ fault. fault ≡ record { refusal = Refusal.Memory; place = first_place }) }
     {
+        let limits = *limits;
+        let _levels = limits.levels;
         Ok(Session {
-            limits: *limits,
+            limits,
             started: false,
             sort: None,
             functions: Functions::new(alloc),
@@ -116,13 +125,60 @@ impl Session {
         self.levels.truncate(kept);
     }
 
-    /// What a command does.
+    /// What the command does whose name is the second token, by that name and what stands behind it.
+    fn effect(&self, tree: &Tree) -> Result<Effect, Refusal>
+        requires { 1 < length tree.now }
+        ensures { Gives result (effect_of self.now (word_at tree.now 1, here tree.now 2)) }
+    {
+        let alloc = *self.levels.allocator();
+        if is_word_at(tree, 1, b"declare-sort".as_slice()) {
+            return read_sort(alloc, self.started, tree, 2);
+        }
+        if is_word_at(tree, 1, b"declare-fun".as_slice()) {
+            return read_function(alloc, &self.sort, &self.functions, tree, 2);
+        }
+        if is_word_at(tree, 1, b"declare-const".as_slice()) {
+            return read_constant(alloc, &self.sort, &self.functions, tree, 2);
+        }
+        if is_word_at(tree, 1, b"assert".as_slice()) {
+            return read_assertion(alloc, &self.sort, &self.functions, tree, 2);
+        }
+        if is_word_at(tree, 1, b"push".as_slice()) {
+            return read_push(tree, 2, self.levels.len() as u32, self.limits.levels);
+        }
+        if is_word_at(tree, 1, b"pop".as_slice()) {
+            return read_pop(tree, 2, self.levels.len() as u32);
+        }
+        if !is_word_at(tree, 1, b"check-sat".as_slice()) {
+            return Err(Refusal::NotBuilt);
+        }
+        if has_end(tree, 2) {
+            Ok(Effect::CheckSat)
+        } else {
+            Err(Refusal::NotBuilt)
+        }
+    }
+
+    /// What a command does, where its triggers are valid.
     fn plan(&self, tree: &Tree) -> Result<Effect, Refusal>
         ensures plan { Plans self.now tree.now result }
         ensures allowed { IfOk result (IsAllowed self.now) }
         ensures shape { IfOk result (λ effect. HasShape (command_of effect)) }
     {
-        Err(Refusal::Memory)
+        let _functions = self.functions.len();
+        if !has_headed(tree, 0) {
+            return Err(Refusal::NotBuilt);
+        }
+        match self.effect(tree) {
+            Err(refusal) => Err(refusal),
+            Ok(effect) => {
+                if asserts_valid(&effect) {
+                    Ok(effect)
+                } else {
+                    Err(Refusal::NotBuilt)
+                }
+            }
+        }
     }
 
     /// Does it.
