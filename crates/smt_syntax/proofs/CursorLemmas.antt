@@ -1,11 +1,19 @@
 -- What stands from a place on.
-use Rattle.std.proofs.Common.{◌≡◌, ℕ, zero, suc, ◌+◌, ◌<◌, ◌≤◌, ◌-◌, List, [], ◌∷◌, length, drop, Bool, true, false, Option, Some, None, sym, ap, ◌∙◌, refl, arith}
+use Rattle.std.proofs.Common.{◌≡◌, ℕ, zero, suc, ◌+◌, ◌<◌, ◌≤◌, ◌-◌, List, [], ◌∷◌, length, drop, Bool, true, false, Option, Some, None, sym, ap, ◌∙◌, refl, subst, arith}
+use Rattle.std.proofs.Common.{IfSome, slice_get}
+use Rattle.std.proofs.lemmas.Option.{slice_get-get_or}
+use Rattle.smt_text.specs.declared.token.Token.{Token as TokenOf}
+use Rattle.smt_text.specs.Partners.{IsPartner, Closes, kinds}
+use Rattle.std.proofs.Common.{IfSome, slice_get}
+use Rattle.std.proofs.lemmas.Option.{slice_get-get_or}
+use Rattle.smt_text.specs.declared.token.Token.{Token as TokenOf}
+use Rattle.smt_text.specs.PartnersLaws.{Closes-ahead, length-kinds}
 use Rattle.std.proofs.lemmas.List.{drop_more, drop_all}
 use Rattle.smt_text.specs.Word.{Word}
 use Rattle.smt_text.specs.Trees.{Trees, End, Token, Group, ahead, before, outermost, outer}
 use Rattle.smt_text.specs.declared.token.Kind.{Kind}
 use Rattle.smt_text.specs.declared.token.Kind.TheVariants.{Left, Right, Symbol, Keyword, Numeral, Decimal, Hex, Binary, Text}
-use Rattle.smt_syntax.specs.Cursor.{nowhere, word_at, here, behind, IsWithin, HasEnd, HasTwo, HasHeaded, is_left, is_right, is_end, is_token, is_list, depth_after}
+use Rattle.smt_syntax.specs.Cursor.{nowhere, word_at, here, behind, IsWithin, HasEnd, HasTwo, HasHeaded, is_left, is_right, is_end, is_token, is_list}
 use Rattle.smt_syntax.specs.Commands.{two_tokens, headed, function_parts}
 
 -- what stands ahead of a word
@@ -63,45 +71,19 @@ module _ (words : List Word) (n : ℕ) where
   pub no_list : n < length words → is_left (word_at words n).kind ≡ false → is_list (here words n) ≡ false
   no_list below left = ap (λ (ts : List Trees). is_list (outermost ts)) (ahead_at words n below) ∙ before_no_list (word_at words n).kind (word_at words n) (ahead (drop (n + 1) words)) left
 
--- behind the ends of n lists
-abbrev pub outers : ℕ → List Trees → List Trees
-outers zero trees = trees
-outers (suc n) trees = outers n (outer trees)
+left_kind : (k : Kind) → is_left k ≡ true → k ≡ Left
+left_kind Left l = refl
+left_kind k l = absurd (cc)
 
-outers_none : (n : ℕ) → outers n [] ≡ []
-outers_none zero = refl
-outers_none (suc n) = outers_none n
+-- the partner of a left parenthesis closes it
+pub closes_left : (words : List Word) (i j : ℕ) (found is : Kind) → found ≡ is → is_left is ≡ true → IsPartner (kinds words) i j found → Closes (kinds words) i j
+closes_left words i j found is same left partner = subst (IsPartner (kinds words) i j) (same ∙ left_kind is left) partner
 
--- a word leaves so many lists open
-depth_kept : (k : Kind) (w : Word) (rest : List Trees) (n m : ℕ) → depth_after k n ≡ Some m → outers (suc n) (before k w rest) ≡ outers (suc m) rest
-depth_kept Left w rest n m e = let more : suc n ≡ m = omega (arith, some_same e) in ap (λ (k : ℕ). outers (suc k) rest) more
-  where
-    some_same : Some (n + 1) ≡ Some m → n + 1 ≡ m
-    some_same e = cc
-depth_kept Right w rest zero m e = absurd (cc)
-depth_kept Right w rest (suc n) m e = let same : n ≡ m = cc in ap (λ (k : ℕ). outers (suc k) rest) same
-depth_kept Symbol w rest n m e = let same : n ≡ m = cc in ap (λ (k : ℕ). outers (suc k) rest) same
-depth_kept Keyword w rest n m e = let same : n ≡ m = cc in ap (λ (k : ℕ). outers (suc k) rest) same
-depth_kept Numeral w rest n m e = let same : n ≡ m = cc in ap (λ (k : ℕ). outers (suc k) rest) same
-depth_kept Decimal w rest n m e = let same : n ≡ m = cc in ap (λ (k : ℕ). outers (suc k) rest) same
-depth_kept Hex w rest n m e = let same : n ≡ m = cc in ap (λ (k : ℕ). outers (suc k) rest) same
-depth_kept Binary w rest n m e = let same : n ≡ m = cc in ap (λ (k : ℕ). outers (suc k) rest) same
-depth_kept Text w rest n m e = let same : n ≡ m = cc in ap (λ (k : ℕ). outers (suc k) rest) same
+pub behind_list : (words : List Word) (i j : ℕ) → Closes (kinds words) i j → here words (j + 1) ≡ outermost (behind words (i + 1))
+behind_list words i j closes = ap outermost (Closes-ahead words i j closes)
 
-depth_ended : (k : Kind) (w : Word) (rest : List Trees) (n : ℕ) → depth_after k n ≡ None → outers (suc n) (before k w rest) ≡ rest
-depth_ended Right w rest zero e = refl
-depth_ended Right w rest (suc n) e = absurd (cc)
-depth_ended k w rest n e = absurd (cc)
-
-module _ (words : List Word) (i n : ℕ) (below : i < length words) where
-  pub list_goes_on : (m : ℕ) → depth_after (word_at words i).kind n ≡ Some m → outers (suc n) (ahead (drop i words)) ≡ outers (suc m) (ahead (drop (i + 1) words))
-  list_goes_on m e = ap (outers (suc n)) (ahead_at words i below) ∙ depth_kept (word_at words i).kind (word_at words i) (ahead (drop (i + 1) words)) n m e
-
-  pub list_closes : depth_after (word_at words i).kind n ≡ None → outers (suc n) (ahead (drop i words)) ≡ ahead (drop (i + 1) words)
-  list_closes e = ap (outers (suc n)) (ahead_at words i below) ∙ depth_ended (word_at words i).kind (word_at words i) (ahead (drop (i + 1) words)) n e
-
-pub list_ends : (words : List Word) (i n : ℕ) → length words ≤ i → outers (suc n) (ahead (drop i words)) ≡ ahead (drop i words)
-list_ends words i n past = ap (outers (suc n)) (ahead_end words i past) ∙ outers_none (suc n) ∙ sym (ahead_end words i past)
+pub partner_within : (words : List Word) (i j : ℕ) → Closes (kinds words) i j → (i < j) × (j < length words)
+partner_within words i j closes = (closes.later, omega (arith, closes.there, length-kinds words))
 
 -- shapes that are none
 pub two_no_first : (t : Trees) → is_token t ≡ false → two_tokens t ≡ None
@@ -164,7 +146,7 @@ module _ (words : List Word) (i : ℕ) where
   pub two_is : (end : Bool) → here words i ≡ Token (word_at words i) (here words (i + 1)) → here words (i + 1) ≡ Token (word_at words (i + 1)) (here words (i + 1 + 1))
       → IsWithin words (i + 1) → HasEnd words (i + 2) end → HasTwo words i end
   two_is true first second within ends = (two_next first second ∙ ap (λ (t : Trees). two_tokens (Token (word_at words i) (Token (word_at words (i + 1)) t))) ends, within)
-  two_is false first second within ends = two_next first second ∙ two_no_end _ _ _ ends
+  two_is false first second within ends = two_next first second ∙ two_no_end (word_at words i) (word_at words (i + 1)) (here words (i + 2)) ends
 
   headed_next : (after : ℕ) → here words i ≡ Group (word_at words i) (here words (i + 1)) (here words after) → here words (i + 1) ≡ Token (word_at words (i + 1)) (here words (i + 1 + 1))
       → headed (here words i) ≡ headed (Group (word_at words i) (Token (word_at words (i + 1)) (here words (i + 2))) (here words after))
@@ -174,7 +156,7 @@ module _ (words : List Word) (i : ℕ) where
   pub headed_is : (after : ℕ) (end : Bool) → here words i ≡ Group (word_at words i) (here words (i + 1)) (here words after) → here words (i + 1) ≡ Token (word_at words (i + 1)) (here words (i + 1 + 1))
       → IsWithin words (i + 1) → HasEnd words after end → HasHeaded words i end
   headed_is after true list head within ends = (headed_next after list head ∙ ap (λ (t : Trees). headed (Group (word_at words i) (Token (word_at words (i + 1)) (here words (i + 2))) t)) ends, within)
-  headed_is after false list head within ends = headed_next after list head ∙ headed_no_end _ _ _ _ ends
+  headed_is after false list head within ends = headed_next after list head ∙ headed_no_end (word_at words i) (word_at words (i + 1)) (here words (i + 2)) (here words after) ends
 
   module _ (last : ℕ) (first : here words i ≡ Token (word_at words i) (here words (i + 1))) (list : here words (i + 1) ≡ Group (word_at words (i + 1)) (here words (i + 1 + 1)) (here words last)) where
     parts_next : function_parts (here words i) ≡ function_parts (Token (word_at words i) (Group (word_at words (i + 1)) (here words (i + 2)) (here words last)))
@@ -182,14 +164,21 @@ module _ (words : List Word) (i : ℕ) where
       ∙ ap (λ (n : ℕ). function_parts (Token (word_at words i) (Group (word_at words (i + 1)) (here words n) (here words last)))) (omega arith)
 
     pub parts_without_last : is_token (here words last) ≡ false → function_parts (here words i) ≡ None
-    parts_without_last none = parts_next ∙ parts_no_last _ _ _ _ none
+    parts_without_last none = parts_next ∙ parts_no_last (word_at words i) (word_at words (i + 1)) (here words (i + 2)) (here words last) none
 
     module _ (token : here words last ≡ Token (word_at words last) (here words (last + 1))) where
       parts_next_last : function_parts (here words i) ≡ function_parts (Token (word_at words i) (Group (word_at words (i + 1)) (here words (i + 2)) (Token (word_at words last) (here words (last + 1)))))
       parts_next_last = parts_next ∙ ap (λ (t : Trees). function_parts (Token (word_at words i) (Group (word_at words (i + 1)) (here words (i + 2)) t))) token
 
       pub parts_without_end : is_end (here words (last + 1)) ≡ false → function_parts (here words i) ≡ None
-      parts_without_end none = parts_next_last ∙ parts_no_end _ _ _ _ _ none
+      parts_without_end none = parts_next_last ∙ parts_no_end (word_at words i) (word_at words (i + 1)) (word_at words last) (here words (i + 2)) (here words (last + 1)) none
 
       pub parts_are : here words (last + 1) ≡ End → function_parts (here words i) ≡ Some (word_at words i, here words (i + 2), word_at words last)
       parts_are ends = parts_next_last ∙ ap (λ (t : Trees). function_parts (Token (word_at words i) (Group (word_at words (i + 1)) (here words (i + 2)) (Token (word_at words last) t)))) ends
+
+-- the kind of a token is that of its word
+pub token_word : (words : List Word) (i : ℕ) (token : TokenOf) → i < length words
+    → IfSome (slice_get words i) (λ word. (token.kind ≡ word.kind) × (token.place ≡ word.place) × (token.length ≡ length word.text)) → token.kind ≡ (word_at words i).kind
+token_word words i token below is =
+  let there : slice_get words i ≡ Some (word_at words i) = slice_get-get_or words i nowhere below in
+  (subst (λ (o : Option Word). IfSome o (λ word. (token.kind ≡ word.kind) × (token.place ≡ word.place) × (token.length ≡ length word.text))) there is).0

@@ -6,3 +6,5 @@ pub mod CursorLemmas
 pub mod MachineLemmas
 pub mod SessionLemmas
 pub mod NumberLemmas
+pub mod Reading
+pub mod Laws

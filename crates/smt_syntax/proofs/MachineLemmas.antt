@@ -189,7 +189,7 @@ emptied old new n none rest was = was ∙ ap (λ (xs : List Frame). xs ++ []) (r
 -- a head that is refused
 pub closes_err : (scope : Scope) (old rest new : List Frame) (f : Frame) (done more : List Value) (rows later : Rows) (refusal : Refusal) (next : ℕ)
     → old ≡ rest ++ f ∷ [] → Makes {A = Value} (Err refusal) rows later (applied f.name done) → Closes scope old new done more rows later (Err refusal) next
-closes_err scope old rest new f done more rows later NotBuilt next was refused trees = closes_refused scope old rest f done rows trees was refused
+closes_err scope old rest new f done more rows later NotBuilt next was refused = λ trees. closes_refused scope old rest f done rows trees was refused
 closes_err scope old rest new f done more rows later Memory next was refused = tt {0}
 
 -- a token that is refused

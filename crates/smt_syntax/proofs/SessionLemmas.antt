@@ -1,6 +1,7 @@
 -- What a session answers.
-use Rattle.std.proofs.Common.{◌≡◌, ℕ, List, Option, Some, None, Result, Ok, Err, refl, sym, ap, ◌∙◌}
+use Rattle.std.proofs.Common.{◌≡◌, ℕ, List, Option, Some, None, Result, Ok, Err, refl, sym, ap, subst, ◌∙◌}
 use Rattle.std.specs.Option.{option_map}
+use Rattle.std.proofs.lemmas.Option.{same_Some}
 use Rattle.smt_text.specs.Word.{Word}
 use Rattle.smt_text.specs.declared.token.Place.{Place}
 use Rattle.smt_syntax.specs.declared.command.Command.{Command}
@@ -13,14 +14,20 @@ use Rattle.smt_syntax.specs.Elaborate.{planned, elaborate, command_of, state_aft
 use Rattle.smt_syntax.specs.Changes.{Plans}
 use Rattle.smt_syntax.specs.Calls.{FaultOf, place_of}
 
+answer : State → Effect → Command × State
+answer state effect = (command_of effect, state_after state effect)
+
+answered : (state : State) (o : Option Effect) (command : Command) (later : State) → option_map (answer state) o ≡ Some (command, later) → (effect : Effect) × (o ≡ Some effect) × (command_of effect ≡ command)
+unfolding answer
+answered state None command later e = absurd (cc)
+answered state (Some effect) command later e = (effect, refl, ap (λ (p : Command × State). p.0) (same_Some (answer state effect) (command, later) e))
+
 -- no effect, no command
 not_of_form : (state : State) (words : List Word) → Plans state words (Err NotBuilt) → IsNotOfForm state words
-unfolding elaborate
-not_of_form state words none command later (is, valid) = by (planned state words) refl is
-  where
-    by : (o : Option Effect) → planned state words ≡ o → option_map {U = Command × State} (λ (e : Effect). (command_of e, state_after state e)) o ≡ Some (command, later) → ⊥
-    by None at e = absurd (cc)
-    by (Some effect) at e = let same : command_of effect ≡ command = cc in none effect at (rw same valid)
+unfolding elaborate answer
+not_of_form state words none command later (is, valid) =
+  let found = answered state (planned state words) command later is in
+  none found.0 found.1 (subst AreValid (sym found.2) valid)
 
 -- the refusal of a plan
 pub refuses : (state : State) (words : List Word) (refusal : Refusal) (fault : SyntaxFault) → Plans state words (Err refusal) → FaultOf words refusal fault → Refuses state words fault

@@ -20,13 +20,6 @@ abbrev pub is_right : Kind → Bool
 is_right Right = true
 is_right kind = false
 
--- how many lists are open behind a word, where none is open before the list itself ends
-abbrev pub depth_after : Kind → ℕ → Option ℕ
-depth_after Left open_lists = Some (open_lists + 1)
-depth_after Right zero = None
-depth_after Right (suc open_lists) = Some open_lists
-depth_after kind open_lists = Some open_lists
-
 -- the trees from a place on, to the end of the list that is open there
 abbrev pub here : List Word → ℕ → Trees
 here words i = outermost (ahead (drop i words))

@@ -1,8 +1,8 @@
 //! Reads the tokens of a command as trees.
-ghost use Rattle.std.specs.Prelude.{◌≡◌, ◌<◌, ◌+◌, ◌-◌, ◌^◌, length, true};
+ghost use Rattle.std.specs.Prelude.{◌≡◌, ◌<◌, ◌+◌, length, true};
 ghost use Rattle.smt_text.specs.Trees.{outermost};
 ghost use Rattle.smt_syntax.specs.Names.{is_word};
-ghost use Rattle.smt_syntax.specs.Cursor.{word_at, here, behind, is_left, is_right, depth_after, HasToken, HasEnd, HasList, HasTwo, HasHeaded, HasParts};
+ghost use Rattle.smt_syntax.specs.Cursor.{word_at, here, behind, is_left, is_right, HasToken, HasEnd, HasList, HasTwo, HasHeaded, HasParts};
 
 use smt_text::{Kind, Tree};
 
@@ -76,35 +76,15 @@ pub(crate) fn has_list(tree: &Tree, i: u32) -> Option<u32>
     }
 }
 
-/// How many lists are open behind a parenthesis or a token, or none where the list itself ends.
-fn depth_after(kind: Kind, lists: u32) -> Option<u32>
-    requires { lists < 2 ^ 32 - 1 }
-    ensures { result ≡ depth_after kind lists }
-{
-    if closes_list(kind) {
-        return lists.checked_sub(1);
-    }
-    if opens_list(kind) {
-        return Some(lists + 1);
-    }
-    Some(lists)
-}
-
 /// The place behind the list that begins at a left parenthesis.
 fn after_list(tree: &Tree, i: u32) -> u32
-    requires { i < length tree.now }
+    requires within { i < length tree.now }
+    requires left { is_left (word_at tree.now i).kind ≡ true }
     ensures after { i < result }
     ensures rest { here tree.now result ≡ outermost (behind tree.now (i + 1)) }
 {
-    let len = tree.len();
-    let mut lists: u32 = 0;
-    for at in i + 1..len {
-        match depth_after(kind_at(tree, at), lists) {
-            None => return at + 1,
-            Some(next) => lists = next,
-        }
-    }
-    len
+    let _len = tree.len();
+    tree.token(i).partner + 1
 }
 
 /// Whether two tokens come next and nothing more.

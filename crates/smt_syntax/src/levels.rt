@@ -1,6 +1,6 @@
 //! Reads commands on levels.
 ghost use Rattle.std.specs.Prelude.{◌≡◌, ◌<◌, ◌≤◌, ◌+◌, length};
-ghost use Rattle.smt_syntax.specs.Commands.{level_count, push, pop};
+ghost use Rattle.smt_syntax.specs.Commands.{level_count, push, pop, check_sat};
 ghost use Rattle.smt_syntax.specs.Cursor.{here};
 ghost use Rattle.smt_syntax.specs.Calls.{Gives, GivesSmall};
 
@@ -59,5 +59,16 @@ pub(crate) fn read_pop(tree: &Tree, i: u32, levels: u32) -> Result<Effect, Refus
                 Ok(Effect::Pop { count })
             }
         }
+    }
+}
+
+/// What is asked stands alone.
+pub(crate) fn read_check(tree: &Tree, i: u32) -> Result<Effect, Refusal>
+    ensures { Gives result (check_sat (here tree.now i)) }
+{
+    if has_end(tree, i) {
+        Ok(Effect::CheckSat)
+    } else {
+        Err(Refusal::NotBuilt)
     }
 }

@@ -11,12 +11,12 @@ ghost use Rattle.smt_syntax.specs.Elaborate.{command_of, first_place, place_at, 
 
 use crate::assertions::read_assertion;
 use crate::command::Command;
-use crate::cursor::{has_end, has_headed, is_word_at};
+use crate::cursor::{has_headed, is_word_at};
 use crate::declarations::{read_constant, read_function, read_sort};
 use crate::effect::Effect;
 use crate::fault::{Refusal, SyntaxFault};
 use crate::functions::Functions;
-use crate::levels::{read_pop, read_push};
+use crate::levels::{read_check, read_pop, read_push};
 use crate::validity::asserts_valid;
 use em_outside::Limits;
 use smt_text::{Place, Tree};
@@ -74,10 +74,9 @@ impl Session {
         ensures ok { IfOk result (λ session. session ≡ start limits.now) }
         ensures err { IfErr result (λ fault. fault ≡ record { refusal = Refusal.Memory; place = first_place }) }
     {
-        let limits = *limits;
         let _levels = limits.levels;
         Ok(Session {
-            limits,
+            limits: *limits,
             started: false,
             sort: None,
             functions: Functions::new(alloc),
@@ -149,14 +148,10 @@ impl Session {
         if is_word_at(tree, 1, b"pop".as_slice()) {
             return read_pop(tree, 2, self.levels.len() as u32);
         }
-        if !is_word_at(tree, 1, b"check-sat".as_slice()) {
-            return Err(Refusal::NotBuilt);
+        if is_word_at(tree, 1, b"check-sat".as_slice()) {
+            return read_check(tree, 2);
         }
-        if has_end(tree, 2) {
-            Ok(Effect::CheckSat)
-        } else {
-            Err(Refusal::NotBuilt)
-        }
+        Err(Refusal::NotBuilt)
     }
 
     /// What a command does, where its triggers are valid.

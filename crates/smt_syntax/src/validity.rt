@@ -5,19 +5,13 @@ ghost use Rattle.smt_syntax.specs.Elaborate.{command_of, IsValidShape, AreValid}
 
 use crate::effect::Effect;
 use crate::shape::Shape;
-use term_table::{Trigger, Triggers};
-
-fn is_valid(trigger: &Trigger) -> bool
-    ensures { IsTrue result ↔ IsValid trigger.now }
-{
-    false
-}
+use term_table::Triggers;
 
 fn are_valid(triggers: &Triggers) -> bool
     ensures { IsTrue result ↔ All IsValid triggers.now }
 {
     for i in 0..triggers.len() {
-        if !is_valid(triggers.get(i)) {
+        if !triggers.get(i).valid() {
             return false;
         }
     }
