@@ -1,0 +1,10 @@
+mod Examples
+pub mod Entries
+pub mod FunctionLemmas
+pub mod RowLemmas
+pub mod CursorLemmas
+pub mod MachineLemmas
+pub mod SessionLemmas
+pub mod NumberLemmas
+pub mod Reading
+pub mod Laws

@@ -1,0 +1,14 @@
+pub mod Rows
+pub mod State
+pub mod Names
+pub mod Terms
+pub mod Commands
+pub mod Elaborate
+pub mod Shapes
+pub mod FunctionsInside
+pub mod RowKeys
+pub mod SessionInside
+pub mod Changes
+pub mod Calls
+pub mod Cursor
+pub mod Machine
