@@ -8,3 +8,4 @@ pub mod SessionLemmas
 pub mod NumberLemmas
 pub mod Reading
 pub mod Laws
+pub mod LevelMoves

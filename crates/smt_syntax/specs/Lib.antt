@@ -12,3 +12,4 @@ pub mod Changes
 pub mod Calls
 pub mod Cursor
 pub mod Machine
+pub mod Levels

@@ -6,6 +6,7 @@ ghost use Rattle.smt_syntax.specs.Commands.{effect_of};
 ghost use Rattle.smt_syntax.specs.Cursor.{word_at, here};
 ghost use Rattle.smt_syntax.specs.Calls.{FaultOf, Gives};
 ghost use Rattle.smt_syntax.specs.Changes.{IsAllowed, Plans, Changed};
+ghost use Rattle.smt_syntax.specs.Levels.{MovesLevels};
 ghost use Rattle.smt_syntax.specs.Shapes.{HasShape};
 ghost use Rattle.smt_syntax.specs.Elaborate.{command_of, first_place, place_at, Elaborates, Refuses};
 
@@ -90,6 +91,7 @@ impl Session {
         ensures refused { IfErr result (Refuses self.old tree.now) }
         ensures err { OnErr result (self.new ≡ self.old) }
         ensures shape { IfOk result HasShape }
+        ensures levels { IfOk result (λ command. MovesLevels (length self.old.levels) command (length self.new.levels)) }
     {
         match self.plan(tree) {
             Err(refusal) => Err(fault_of(tree, refusal)),
