@@ -1,0 +1,194 @@
+-- What a run leaves at each of its ends.
+use Rattle.std.proofs.Common.{◌≡◌, ◌≢◌, ◌⊎◌, inl, inr, ℕ, Bool, true, false, List, [], ◌∷◌, ◌++◌, refl, ap, sym, ◌∙◌, Option, Some, None, append_assoc, subst}
+use Rattle.std.specs.Prelude.{IfSome, Ok, Err}
+use Rattle.std.specs.Io.KnownBytes.{Consumes}
+use Rattle.std.proofs.lemmas.List.{append-nil}
+use Rattle.em_outside.specs.Bytes.{Appended, Exhausts}
+use Rattle.em_outside.specs.BytesLaws.{Appended-none, Appended-then, Consumes-told, Exhausts-then}
+use Rattle.em_outside.specs.declared.limits.Limits.{Limits}
+use Rattle.smt_text.specs.Word.{Word}
+use Rattle.smt_text.specs.Script.{Script, End, Fault, Command, IsOpen, script_of}
+use Rattle.smt_text.specs.ByteFault.{IsLasting}
+use Rattle.smt_text.specs.Reading.{Reading, script, Reads, Refuses, AtByte, AtEnd}
+use Rattle.smt_text.specs.declared.byte_fault.ByteFault.{ByteFault}
+use Rattle.smt_text.specs.declared.byte_fault.ByteFault.TheVariants.{Unclosed}
+use Rattle.smt_text.specs.declared.token.Place.{Place}
+use Rattle.smt_text.specs.declared.fault.TextFault.TheVariants as fault
+use Rattle.ematch_cli.specs.Run.{RunState, Replies, IsRefused}
+use Rattle.ematch_cli.specs.Output.{Answer, Ending, Open, Finished, Failed, IsAnswer, behind, refusal, silence, at_end, not_built, opening, IsOutput, IsOutputSoFar}
+use Rattle.ematch_cli.specs.Headline.{Wrote, BeginsWith, WroteFront, WroteFrontOf, Stands, IsUndisturbed, Answers}
+use Rattle.ematch_cli.specs.declared.status.Status.{Status}
+use Rattle.ematch_cli.specs.declared.status.Status.TheVariants as status
+use Rattle.ematch_cli.proofs.OneAnswer.{answer_once}
+use Rattle.ematch_cli.proofs.Reached.{Reached, ahead, reached_read, reached_reply, answered, answered_taken, answered_only, ends_only, no_memory, open_failed, finished_failed, open_answer, open_only, fault_answer, end_answer, end_only, refused_answer, reply_begins, unclosed}
+
+-- how a run ends that has an error to write
+pub record WritesError (out1 out2 : Option (List ℕ)) (s : Status) : Type 0 where
+  pub is : (s ≡ status.ScriptError) ⊎ (s ≡ status.WriteFault)
+  pub whole : s ≡ status.ScriptError → Appended out1 out2 not_built
+  pub front : s ≡ status.WriteFault → WroteFront out1 out2 not_built
+
+by_status : (s : Status) (P : Status → Type 0) → (s ≡ status.ScriptError) ⊎ (s ≡ status.WriteFault) → (s ≡ status.ScriptError → P status.ScriptError) → (s ≡ status.WriteFault → P status.WriteFault) → P s
+by_status s P (inl is) error write = subst P (sym is) (error is)
+by_status s P (inr is) error write = subst P (sym is) (write is)
+
+-- a front behind a text is a front of what is behind it
+begins_behind : (text front bytes : List ℕ) → BeginsWith front bytes → BeginsWith (text ++ front) (text ++ bytes)
+begins_behind text front bytes begins = (begins.0, ap (λ (b : List ℕ). text ++ b) begins.1 ∙ sym (append_assoc text front begins.0))
+
+module _ (limits : Limits) (in0 in1 out0 out1 out2 : Option (List ℕ)) (now : RunState) (rest : List ℕ → Script) (reached : Reached limits in0 in1 out0 out1 now rest) where
+  -- where this answers what is left, a front of it was written behind the text
+  front_of : (known : Bool) (bytes : List ℕ) → ((after : Answer) → IsAnswer known (rest []) now after → BeginsWith bytes after.bytes) → WroteFront out1 out2 bytes
+      → WroteFrontOf out0 out2 (IsAnswer known (script_of limits reached.taken) (opening limits))
+  front_of known bytes begins wrote = (
+    reached.text ++ wrote.0,
+    λ answer is.
+        let inner = answered_only limits in0 in1 out0 out1 now rest reached known answer is in
+        let here = begins inner.0 inner.1 in
+        let all : BeginsWith wrote.0 inner.0.bytes = (wrote.1.0 ++ here.0, here.1 ∙ ap (λ (b : List ℕ). b ++ here.0) wrote.1.1 ∙ append_assoc wrote.0 wrote.1.0 here.0) in
+        subst (BeginsWith (reached.text ++ wrote.0)) (sym (ap (λ (a : Answer). a.bytes) inner.2)) (begins_behind reached.text wrote.0 inner.0.bytes all),
+    Appended-then out0 out1 out2 reached.text wrote.0 reached.wrote wrote.2,
+  )
+
+  whole_of : (known : Bool) (bytes : List ℕ) (end : Answer) → IsAnswer known (script_of limits bytes) (opening limits) (behind reached.text end) → Appended out1 out2 end.bytes
+      → Wrote out0 out2 (IsAnswer known (script_of limits bytes) (opening limits)) end.ending
+  whole_of known bytes end is wrote = (behind reached.text end, is, refl, Appended-then out0 out1 out2 reached.text end.bytes reached.wrote wrote)
+
+  refused_begins : (known : Bool) → IsAnswer known (rest []) now refusal → (after : Answer) → IsAnswer known (rest []) now after → BeginsWith not_built after.bytes
+  refused_begins known is after answered' = ([], ap (λ (a : Answer). a.bytes) (answer_once known (rest []) now after refusal answered' is) ∙ sym (append-nil not_built))
+
+  told : (P : List ℕ → Type 0) → ((more : List ℕ) → P (reached.taken ++ more)) → (input : Option (List ℕ)) → input ≡ in0 → IfSome input P
+  told P each None is = tt
+  told P each (Some xs) is =
+      let parts = Consumes-told xs in1 reached.taken (subst (λ (input : Option (List ℕ)). Consumes input in1 reached.taken) (sym is) reached.given) in
+      subst P (sym parts.2) (each parts.0)
+
+  -- the line of an error, whatever comes behind
+  pub error_line : (s : Status) → WritesError out1 out2 s → ((known : Bool) (more : List ℕ) → IsAnswer known (rest more) now refusal) → Answers limits in0 in1 out0 out2 s
+  error_line s writes fails = by_status s (λ t. Answers limits in0 in1 out0 out2 t) writes.is
+      (λ e. record {
+        taken = reached.taken;
+        given = reached.given;
+        stands = (
+          inl (whole_of false reached.taken refusal (answered_taken limits in0 in1 out0 out1 now rest reached false refusal (fails false [])) (writes.whole e)),
+          told (λ all. Wrote out0 out2 (IsOutput limits all) Failed)
+              (λ more. whole_of true (reached.taken ++ more) refusal (answered limits in0 in1 out0 out1 now rest reached true more refusal (fails true more)) (writes.whole e)) in0 refl,
+        );
+        error_so_far = λ answer is failed calm. refl;
+        error_at_end = λ answer is failed calm no_read. refl;
+      })
+      (λ e. record {
+        taken = reached.taken;
+        given = reached.given;
+        stands = inl (front_of false not_built (refused_begins false (fails false [])) (writes.front e));
+        error_so_far = λ answer is failed calm. absurd (calm.0 refl);
+        error_at_end = λ answer is failed calm no_read. absurd (calm.0 refl);
+      })
+
+  -- the line of an error that the end of the input makes
+  pub end_line : (s : Status) → WritesError out1 out2 s → Exhausts in0 reached.taken → IsAnswer true (rest []) now refusal → Answers limits in0 in1 out0 out2 s
+  end_line s writes all fails = by_status s (λ t. Answers limits in0 in1 out0 out2 t) writes.is
+      (λ e.
+      let wrote : Wrote out0 out2 (IsOutput limits reached.taken) Failed = whole_of true reached.taken refusal (answered_taken limits in0 in1 out0 out1 now rest reached true refusal fails) (writes.whole e) in
+      record {
+        taken = reached.taken;
+        given = reached.given;
+        stands = (inr (all, wrote), at_whole in0 all wrote);
+        error_so_far = λ answer is failed calm. refl;
+        error_at_end = λ answer is failed calm no_read. refl;
+      })
+      (λ e. record {
+        taken = reached.taken;
+        given = reached.given;
+        stands = inr (all, front_of true not_built (refused_begins true fails) (writes.front e));
+        error_so_far = λ answer is failed calm. absurd (calm.0 refl);
+        error_at_end = λ answer is failed calm no_read. absurd (calm.0 refl);
+      })
+    where
+      at_whole : (input : Option (List ℕ)) → Exhausts input reached.taken → Wrote out0 out2 (IsOutput limits reached.taken) Failed → IfSome input (λ all. Wrote out0 out2 (IsOutput limits all) Failed)
+      at_whole None all wrote = tt
+      at_whole (Some xs) all wrote = subst (λ (bytes : List ℕ). Wrote out0 out2 (IsOutput limits bytes) Failed) (sym all) wrote
+
+  -- a write that failed in the midst of a reply
+  pub reply_fault : (words : List Word) (behind_it : Script) (later : RunState) (text : List ℕ) → rest [] ≡ Command words behind_it → Replies now words later text → WroteFront out1 out2 text
+      → Answers limits in0 in1 out0 out2 status.WriteFault
+  reply_fault words behind_it later text first replies wrote = record {
+    taken = reached.taken;
+    given = reached.given;
+    stands = inl (front_of false text (λ after is. reply_begins false words behind_it now later text after replies (subst (λ (s : Script). IsAnswer false s now after) first is)) wrote);
+    error_so_far = λ answer is failed calm. absurd (calm.0 refl);
+    error_at_end = λ answer is failed calm no_read. absurd (calm.0 refl);
+  }
+
+module _ (limits : Limits) (in0 in1 out0 out1 : Option (List ℕ)) (now : RunState) (rest : List ℕ → Script) (reached : Reached limits in0 in1 out0 out1 now rest) where
+  -- the input was read to its end, between two commands
+  pub finished : Exhausts in0 reached.taken → rest [] ≡ End → Answers limits in0 in1 out0 out1 status.Done
+  finished all end = record {
+    taken = reached.taken;
+    given = reached.given;
+    stands = (
+      all,
+      whole_of limits in0 in1 out0 out1 out1 now rest reached true reached.taken (silence Finished)
+          (answered_taken limits in0 in1 out0 out1 now rest reached true (silence Finished) (subst (λ (s : Script). IsAnswer true s now (silence Finished)) (sym end) (end_answer now))) (Appended-none out1),
+    );
+    error_so_far = λ answer is failed calm. open_failed (sym (ends_only limits in0 in1 out0 out1 now rest reached false (silence Open) answer (only false) is) ∙ failed);
+    error_at_end = λ answer is failed calm no_read. finished_failed (sym (ends_only limits in0 in1 out0 out1 now rest reached true (silence Finished) answer (only true) is) ∙ failed);
+  }
+    where
+      only : (known : Bool) (after : Answer) → IsAnswer known (rest []) now after → after ≡ at_end known
+      only known after is = end_only known now after (subst (λ (s : Script). IsAnswer known s now after) end is)
+
+  -- a read failed while the bytes taken are open
+  pub read_failed : IsOpen (rest []) → Answers limits in0 in1 out0 out1 status.ReadFault
+  read_failed open' = record {
+    taken = reached.taken;
+    given = reached.given;
+    stands = whole_of limits in0 in1 out0 out1 out1 now rest reached false reached.taken (silence Open)
+        (answered_taken limits in0 in1 out0 out1 now rest reached false (silence Open) (open_answer (rest []) now open')) (Appended-none out1);
+    error_so_far = λ answer is failed calm. open_failed (sym (ends_only limits in0 in1 out0 out1 now rest reached false (silence Open) answer (open_only (rest []) now open') is) ∙ failed);
+    error_at_end = λ answer is failed calm no_read. absurd (no_read refl);
+  }
+
+-- what a run answers after a call of its reader
+module _ (limits : Limits) (in0 in1 in2 out0 out1 out2 : Option (List ℕ)) (now : RunState) (old new : Reading) (reached : Reached limits in0 in1 out0 out1 now (ahead old)) where
+  abbrev behind_taken : List ℕ → List ℕ → Script
+  behind_taken taken more = script old ((old.held ++ taken) ++ more)
+
+  abbrev after : (taken : List ℕ) → Consumes in1 in2 taken → Reached limits in0 in2 out0 out1 now (behind_taken taken)
+  after taken given = reached_read limits in0 in1 in2 out0 out1 now old taken reached given
+
+  at_nil : (taken : List ℕ) (s : Script) → script old (old.held ++ taken) ≡ s → behind_taken taken [] ≡ s
+  at_nil taken s is = ap (script old) (append-nil (old.held ++ taken)) ∙ is
+
+  pub done : Reads old new in1 in2 (Ok None) → Answers limits in0 in2 out0 out1 status.Done
+  done r = finished limits in0 in2 out0 out1 now (behind_taken r.taken) (after r.taken r.given) (Exhausts-then in0 in1 reached.taken r.taken reached.given r.answer.2) (at_nil r.taken End r.answer.1)
+
+  pub read_fault : Reads old new in1 in2 (Err fault.ReadFault) → Answers limits in0 in2 out0 out1 status.ReadFault
+  read_fault r = read_failed limits in0 in2 out0 out1 now (behind_taken r.taken) (after r.taken r.given) (subst IsOpen (ap (script old) (sym (append-nil (old.held ++ r.taken)))) r.answer.1)
+
+  pub reader_memory : Reads old new in1 in2 (Err fault.Memory) → Answers limits in0 in2 out0 out1 status.NoMemory
+  reader_memory r = no_memory limits in0 in2 out0 out1 now (behind_taken r.taken) (after r.taken r.given)
+
+  pub reply_memory : (words : List Word) → Reads old new in1 in2 (Ok (Some words)) → Answers limits in0 in2 out0 out1 status.NoMemory
+  reply_memory words r = no_memory limits in0 in2 out0 out1 now (behind_taken r.taken) (after r.taken r.given)
+
+  pub write_fault : (words : List Word) (later : RunState) (text : List ℕ) → Reads old new in1 in2 (Ok (Some words)) → Replies now words later text → WroteFront out1 out2 text → Answers limits in0 in2 out0 out2 status.WriteFault
+  write_fault words later text r replies wrote =
+      reply_fault limits in0 in2 out0 out1 out2 now (behind_taken r.taken) (after r.taken r.given) words (script new (new.held ++ [])) later text (r.answer.first []) replies wrote
+
+  pub next : (words : List Word) (later : RunState) (text : List ℕ) → Reads old new in1 in2 (Ok (Some words)) → Replies now words later text → Appended out1 out2 text → Reached limits in0 in2 out0 out2 later (ahead new)
+  next words later text r replies wrote = reached_reply limits in0 in2 out0 out1 out2 now later words text (behind_taken r.taken) (ahead new) (after r.taken r.given) r.answer.first replies wrote
+
+  pub refused_command : (words : List Word) (s : Status) → Reads old new in1 in2 (Ok (Some words)) → IsRefused now words → WritesError out1 out2 s → Answers limits in0 in2 out0 out2 s
+  refused_command words s r refused writes = error_line limits in0 in2 out0 out1 out2 now (behind_taken r.taken) (after r.taken r.given) s writes
+      (λ known more. subst (λ (t : Script). IsAnswer known t now refusal) (sym (r.answer.first more)) (refused_answer known words (script new (new.held ++ more)) now refused))
+
+  refused_at : (place : Place) (s : Status) (taken : List ℕ) (given : Consumes in1 in2 taken) → Refuses (script old) (old.held ++ taken) in1 taken place → WritesError out1 out2 s → Answers limits in0 in2 out0 out2 s
+  refused_at place s taken given (AtByte byte lasting at is) writes = error_line limits in0 in2 out0 out1 out2 now (behind_taken taken) (after taken given) s writes
+      (λ known more. subst (λ (t : Script). IsAnswer known t now refusal) (sym (is more)) (fault_answer known byte now lasting))
+  refused_at place s taken given (AtEnd is all) writes = end_line limits in0 in2 out0 out1 out2 now (behind_taken taken) (after taken given) s writes
+      (Exhausts-then in0 in1 reached.taken taken reached.given all)
+      (subst (λ (t : Script). IsAnswer true t now refusal) (sym (at_nil taken (Fault (Unclosed place)) is)) (unclosed now place))
+
+  pub refused_bytes : (place : Place) (s : Status) → Reads old new in1 in2 (Err (fault.NotBuilt place)) → WritesError out1 out2 s → Answers limits in0 in2 out0 out2 s
+  refused_bytes place s r writes = refused_at place s r.taken r.given r.answer.1 writes

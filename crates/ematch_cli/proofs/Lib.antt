@@ -1,0 +1,11 @@
+pub mod TreeSizes
+pub mod Texts
+pub mod Matches
+pub mod OneText
+pub mod OneAnswer
+pub mod Reached
+pub mod Exits
+pub mod Entering
+pub mod LevelLemmas
+pub mod Numbered
+pub mod Steps

@@ -1,0 +1,225 @@
+-- How far a run has come, and what it leaves where it ends.
+use Rattle.std.proofs.Common.{◌≡◌, ◌≢◌, ◌⊎◌, inl, inr, ℕ, Bool, true, false, List, [], ◌∷◌, ◌++◌, refl, ap, sym, ◌∙◌, Option, Some, None, append_assoc, subst}
+use Rattle.std.specs.Prelude.{IfSome, Ok, Err}
+use Rattle.std.specs.Io.KnownBytes.{Consumes}
+use Rattle.std.proofs.lemmas.List.{append-nil}
+use Rattle.em_outside.specs.Bytes.{Appended, Exhausts}
+use Rattle.em_outside.specs.BytesLaws.{Appended-none, Appended-then, Consumes-none, Consumes-then, Consumes-told, Exhausts-then}
+use Rattle.em_outside.specs.declared.limits.Limits.{Limits}
+use Rattle.smt_text.specs.Word.{Word}
+use Rattle.smt_text.specs.Script.{Script, End, Fault, Command, IsOpen, script_of}
+use Rattle.smt_text.specs.ByteFault.{IsLasting}
+use Rattle.smt_text.specs.Reading.{Reading, script, start, Reads, Refuses, AtByte, AtEnd}
+use Rattle.smt_text.specs.declared.byte_fault.ByteFault.{ByteFault}
+use Rattle.smt_text.specs.declared.byte_fault.ByteFault.TheVariants.{BadByte, Unclosed, Stray, TooDeep, TooLong}
+use Rattle.smt_text.specs.declared.token.Place.{Place}
+use Rattle.smt_text.specs.declared.fault.TextFault.TheVariants as fault
+use Rattle.ematch_cli.specs.Run.{RunState, Replies, IsRefused}
+use Rattle.ematch_cli.specs.Output.{Answer, Ending, Open, Finished, Failed, IsAnswer, behind, refusal, silence, not_built, at_end, at_fault, opening, IsOutput, IsOutputSoFar}
+use Rattle.ematch_cli.specs.Headline.{Wrote, BeginsWith, WroteFront, WroteFrontOf, Stands, IsUndisturbed, Answers}
+use Rattle.ematch_cli.specs.declared.status.Status.{Status}
+use Rattle.ematch_cli.specs.declared.status.Status.TheVariants as status
+use Rattle.ematch_cli.proofs.OneAnswer.{replies_once, refused_replies}
+
+-- a script that begins with these commands
+abbrev pub commands_then : List (List Word) → Script → Script
+commands_then [] rest = rest
+commands_then (words ∷ commands) rest = Command words (commands_then commands rest)
+
+pub commands_then-push : (commands : List (List Word)) (words : List Word) (rest : Script) → commands_then (commands ++ words ∷ []) rest ≡ commands_then commands (Command words rest)
+commands_then-push [] words rest = refl
+commands_then-push (first ∷ commands) words rest = ap (Command first) (commands_then-push commands words rest)
+
+-- the commands are answered by the text, one after another
+abbrev pub RepliesAll : RunState → List (List Word) → RunState → List ℕ → Type 0
+RepliesAll state [] later text = (later ≡ state) × (text ≡ [])
+RepliesAll state (words ∷ commands) later text = (mid : RunState) × (first : List ℕ) × (rest : List ℕ) × Replies state words mid first × RepliesAll mid commands later rest × (text ≡ first ++ rest)
+
+pub replies_all-push : (commands : List (List Word)) (state mid later : RunState) (text more : List ℕ) (words : List Word)
+    → RepliesAll state commands mid text → Replies mid words later more → RepliesAll state (commands ++ words ∷ []) later (text ++ more)
+replies_all-push [] state mid later text more words (is, none) replies =
+    (later, more, [], subst (λ (s : RunState). Replies s words later more) is replies, (refl, refl), ap (λ (t : List ℕ). t ++ more) none ∙ sym (append-nil more))
+replies_all-push (command ∷ commands) state mid later text more words (next, first, rest, one, others, is) replies =
+    (next, first, rest ++ more, one, replies_all-push commands next mid later rest more words others replies, ap (λ (t : List ℕ). t ++ more) is ∙ append_assoc first rest more)
+
+behind-behind : (first second : List ℕ) (answer : Answer) → behind first (behind second answer) ≡ behind (first ++ second) answer
+behind-behind first second answer = ap (λ (bytes : List ℕ). record answer { bytes = bytes }) (sym (append_assoc first second answer.bytes))
+
+-- what is answered behind the commands is answered behind their text
+answers_behind : (known : Bool) (commands : List (List Word)) (rest : Script) (state later : RunState) (text : List ℕ) (answer : Answer)
+    → RepliesAll state commands later text → IsAnswer known rest later answer → IsAnswer known (commands_then commands rest) state (behind text answer)
+unfolding IsAnswer
+answers_behind known [] rest state later text answer (is, none) answered =
+    subst (λ (t : List ℕ). IsAnswer known rest state (behind t answer)) (sym none) (subst (λ (s : RunState). IsAnswer known rest s answer) is answered)
+answers_behind known (words ∷ commands) rest state later text answer (mid, first, others, one, all, is) answered =
+    inr (
+      mid,
+      first,
+      behind others answer,
+      one,
+      answers_behind known commands rest mid later others answer all answered,
+      ap (λ (t : List ℕ). behind t answer) is ∙ sym (behind-behind first others answer),
+    )
+
+-- and only that
+behind_only : (known : Bool) (commands : List (List Word)) (rest : Script) (state later : RunState) (text : List ℕ) (answer : Answer)
+    → RepliesAll state commands later text → IsAnswer known (commands_then commands rest) state answer → (after : Answer) × IsAnswer known rest later after × (answer ≡ behind text after)
+unfolding IsAnswer
+behind_only known [] rest state later text answer (is, none) answered =
+    (answer, subst (λ (s : RunState). IsAnswer known rest s answer) (sym is) answered, ap (λ (t : List ℕ). behind t answer) (sym none))
+behind_only known (words ∷ commands) rest state later text answer (mid, first, others, one, all, is) (inl refused) = refused_replies state words mid first refused.0 one
+behind_only known (words ∷ commands) rest state later text answer (mid, first, others, one, all, is) (inr (mid', first', after, replies, answered, answer_is)) =
+    let same = replies_once state words mid' mid first' first replies one in
+    let inner = behind_only known commands rest mid later others after all (subst (λ (s : RunState). IsAnswer known (commands_then commands rest) s after) same.0 answered) in
+    (inner.0, inner.1, answer_is ∙ ap (λ (t : List ℕ). behind t after) same.1 ∙ ap (behind first) inner.2 ∙ behind-behind first others inner.0 ∙ ap (λ (t : List ℕ). behind t inner.0) (sym is))
+
+-- The bytes taken so far are commands, all of which were answered; what comes of more goes on behind them.
+pub record Reached (limits : Limits) (in0 in1 out0 out1 : Option (List ℕ)) (now : RunState) (rest : List ℕ → Script) : Type 0 where
+  pub taken : List ℕ
+  pub given : Consumes in0 in1 taken
+  pub commands : List (List Word)
+  pub script_is : (more : List ℕ) → script_of limits (taken ++ more) ≡ commands_then commands (rest more)
+  pub text : List ℕ
+  pub wrote : Appended out0 out1 text
+  pub replied : RepliesAll (opening limits) commands now text
+
+abbrev pub ahead : Reading → List ℕ → Script
+ahead reader more = script reader (reader.held ++ more)
+
+abbrev pub reached_start : (limits : Limits) (input out : Option (List ℕ)) → Reached limits input input out out (opening limits) (ahead (start limits))
+reached_start limits input out = record {
+  taken = [];
+  given = Consumes-none input;
+  commands = [];
+  script_is = λ more. refl;
+  text = [];
+  wrote = Appended-none out;
+  replied = (refl, refl);
+}
+
+-- more bytes were taken
+abbrev pub reached_read : (limits : Limits) (in0 in1 in2 out0 out1 : Option (List ℕ)) (now : RunState) (reader : Reading) (taken : List ℕ) → Reached limits in0 in1 out0 out1 now (ahead reader)
+    → Consumes in1 in2 taken → Reached limits in0 in2 out0 out1 now (λ more. script reader ((reader.held ++ taken) ++ more))
+reached_read limits in0 in1 in2 out0 out1 now reader taken reached given = record {
+  taken = reached.taken ++ taken;
+  given = Consumes-then in0 in1 in2 reached.taken taken reached.given given;
+  commands = reached.commands;
+  script_is = λ more. ap (script_of limits) (append_assoc reached.taken taken more) ∙ reached.script_is (taken ++ more)
+      ∙ ap (λ (bytes : List ℕ). commands_then reached.commands (script reader bytes)) (sym (append_assoc reader.held taken more));
+  text = reached.text;
+  wrote = reached.wrote;
+  replied = reached.replied;
+}
+
+-- a command was answered
+abbrev pub reached_reply : (limits : Limits) (in0 in1 out0 out1 out2 : Option (List ℕ)) (now later : RunState) (words : List Word) (text : List ℕ) (rest next : List ℕ → Script)
+    → Reached limits in0 in1 out0 out1 now rest → ((more : List ℕ) → rest more ≡ Command words (next more)) → Replies now words later text → Appended out1 out2 text → Reached limits in0 in1 out0 out2 later next
+reached_reply limits in0 in1 out0 out1 out2 now later words text rest next reached first replies wrote = record {
+  taken = reached.taken;
+  given = reached.given;
+  commands = reached.commands ++ words ∷ [];
+  script_is = λ more. reached.script_is more ∙ ap (commands_then reached.commands) (first more) ∙ sym (commands_then-push reached.commands words (next more));
+  text = reached.text ++ text;
+  wrote = Appended-then out0 out1 out2 reached.text text reached.wrote wrote;
+  replied = replies_all-push reached.commands (opening limits) now later reached.text text words reached.replied replies;
+}
+
+module _ (limits : Limits) (in0 in1 out0 out1 : Option (List ℕ)) (now : RunState) (rest : List ℕ → Script) (reached : Reached limits in0 in1 out0 out1 now rest) where
+  -- the script of the bytes taken
+  pub at_taken : script_of limits reached.taken ≡ commands_then reached.commands (rest [])
+  at_taken = ap (script_of limits) (sym (append-nil reached.taken)) ∙ reached.script_is []
+
+  -- an answer to what is left is one to all behind the text
+  pub answered : (known : Bool) (more : List ℕ) (answer : Answer) → IsAnswer known (rest more) now answer → IsAnswer known (script_of limits (reached.taken ++ more)) (opening limits) (behind reached.text answer)
+  answered known more answer is =
+      subst (λ (s : Script). IsAnswer known s (opening limits) (behind reached.text answer)) (sym (reached.script_is more))
+      (answers_behind known reached.commands (rest more) (opening limits) now reached.text answer reached.replied is)
+
+  pub answered_taken : (known : Bool) (answer : Answer) → IsAnswer known (rest []) now answer → IsAnswer known (script_of limits reached.taken) (opening limits) (behind reached.text answer)
+  answered_taken known answer is =
+      subst (λ (bytes : List ℕ). IsAnswer known (script_of limits bytes) (opening limits) (behind reached.text answer)) (append-nil reached.taken) (answered known [] answer is)
+
+  -- and there is no other
+  pub answered_only : (known : Bool) (answer : Answer) → IsAnswer known (script_of limits reached.taken) (opening limits) answer → (after : Answer) × IsAnswer known (rest []) now after × (answer ≡ behind reached.text after)
+  answered_only known answer is =
+      behind_only known reached.commands (rest []) (opening limits) now reached.text answer reached.replied (subst (λ (s : Script). IsAnswer known s (opening limits) answer) at_taken is)
+
+  -- where what is left is answered by this alone, so is all that was taken
+  pub ends_only : (known : Bool) (end answer : Answer) → ((after : Answer) → IsAnswer known (rest []) now after → after ≡ end) → IsAnswer known (script_of limits reached.taken) (opening limits) answer → answer.ending ≡ end.ending
+  ends_only known end answer only is = let inner = answered_only known answer is in ap (λ (a : Answer). a.ending) inner.2 ∙ ap (λ (a : Answer). a.ending) (only inner.0 inner.1)
+
+  -- what was written so far is a front of each answer
+  pub front_so_far : WroteFrontOf out0 out1 (IsOutputSoFar limits reached.taken)
+  front_so_far = (reached.text, (λ answer is. let inner = answered_only false answer is in (inner.0.bytes, ap (λ (a : Answer). a.bytes) inner.2)), reached.wrote)
+
+  -- a run that stops here for want of memory
+  pub no_memory : Answers limits in0 in1 out0 out1 status.NoMemory
+  no_memory = record {
+    taken = reached.taken;
+    given = reached.given;
+    stands = inl front_so_far;
+    error_so_far = λ answer is failed calm. absurd (calm.1 refl);
+    error_at_end = λ answer is failed calm no_read. absurd (calm.1 refl);
+  }
+
+-- the endings are different
+pub open_failed : {P : Type 0} → Open ≡ Failed → P
+open_failed e = absurd (cc)
+
+pub finished_failed : {P : Type 0} → Finished ≡ Failed → P
+finished_failed e = absurd (cc)
+
+-- where the bytes are open, nothing more is answered
+pub open_answer : (rest : Script) (now : RunState) → IsOpen rest → IsAnswer false rest now (silence Open)
+unfolding IsAnswer
+open_answer End now is = refl
+open_answer (Fault (Unclosed place)) now is = refl
+open_answer (Fault (BadByte place)) now is = absurd is
+open_answer (Fault (Stray place)) now is = absurd is
+open_answer (Fault (TooDeep place)) now is = absurd is
+open_answer (Fault (TooLong place)) now is = absurd is
+open_answer (Command words rest) now is = absurd is
+
+pub open_only : (rest : Script) (now : RunState) → IsOpen rest → (after : Answer) → IsAnswer false rest now after → after ≡ silence Open
+unfolding IsAnswer
+open_only End now is after answered = answered
+open_only (Fault (Unclosed place)) now is after answered = answered
+open_only (Fault (BadByte place)) now is after answered = absurd is
+open_only (Fault (Stray place)) now is after answered = absurd is
+open_only (Fault (TooDeep place)) now is after answered = absurd is
+open_only (Fault (TooLong place)) now is after answered = absurd is
+open_only (Command words rest) now is after answered = absurd is
+
+-- a fault that stands whatever comes is refused
+pub fault_answer : (known : Bool) (byte : ByteFault) (now : RunState) → IsLasting byte → IsAnswer known (Fault byte) now refusal
+unfolding IsAnswer
+fault_answer true byte now lasting = refl
+fault_answer false (BadByte place) now lasting = refl
+fault_answer false (Stray place) now lasting = refl
+fault_answer false (TooDeep place) now lasting = refl
+fault_answer false (TooLong place) now lasting = refl
+fault_answer false (Unclosed place) now lasting = absurd lasting
+
+-- a command that is open where the input ends is refused
+pub unclosed : (now : RunState) (place : Place) → IsAnswer true (Fault (Unclosed place)) now refusal
+unfolding IsAnswer
+unclosed now place = refl
+
+pub end_answer : (now : RunState) → IsAnswer true End now (silence Finished)
+unfolding IsAnswer
+end_answer now = refl
+
+pub end_only : (known : Bool) (now : RunState) (after : Answer) → IsAnswer known End now after → after ≡ at_end known
+unfolding IsAnswer
+end_only known now after answered = answered
+
+pub refused_answer : (known : Bool) (words : List Word) (rest : Script) (now : RunState) → IsRefused now words → IsAnswer known (Command words rest) now refusal
+unfolding IsAnswer
+refused_answer known words rest now refused = inl (refused, refl)
+
+-- a command that is answered begins each answer
+pub reply_begins : (known : Bool) (words : List Word) (rest : Script) (now later : RunState) (text : List ℕ) (answer : Answer) → Replies now words later text → IsAnswer known (Command words rest) now answer → BeginsWith text answer.bytes
+unfolding IsAnswer
+reply_begins known words rest now later text answer replies (inl refused) = refused_replies now words later text refused.0 replies
+reply_begins known words rest now later text answer replies (inr (mid, first, after, one, answered, is)) =
+    (after.bytes, ap (λ (a : Answer). a.bytes) is ∙ ap (λ (t : List ℕ). t ++ after.bytes) (replies_once now words mid later first text one replies).1)

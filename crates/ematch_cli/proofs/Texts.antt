@@ -1,0 +1,68 @@
+-- Texts that are put one behind another.
+use Rattle.std.proofs.Common.{◌≡◌, ◌≢◌, ℕ, ◌+◌, ◌<◌, ◌≤◌, List, [], ◌∷◌, ◌++◌, length, drop, Some, refl, sym, ap, subst, ◌∙◌, arith, append_assoc}
+use Rattle.std.specs.Prelude.{slice_get}
+use Rattle.std.proofs.lemmas.List.{drop_all, append-nil}
+use Rattle.term_table.specs.declared.term_row.TermRow.{TermRow}
+use Rattle.term_table.specs.Terms.{term_row, HasRow}
+use Rattle.ematch_cli.specs.Printed.{symbol_text, IsTermText, constant, application, AreTermTexts, texts_none, texts_more}
+use Rattle.ematch_cli.specs.Joined.{AreJoined, joined_none, joined_more}
+use Rattle.ematch_cli.specs.Writing.{Puts}
+use Rattle.ematch_cli.proofs.TreeSizes.{drop_at}
+
+-- one text behind another
+pub put_two : (old a b mid new : List ℕ) → mid ≡ old ++ a → new ≡ mid ++ b → new ≡ old ++ (a ++ b)
+put_two old a b mid new first second = second ∙ ap (λ (z : List ℕ). z ++ b) first ∙ append_assoc old a b
+
+module _ (names : ℕ → List ℕ) (rows : List TermRow) (term : ℕ) (row : TermRow) (has : HasRow rows term row) where
+  no_args : (symbol : ℕ) (args : List ℕ) → length args ≡ 0 → HasRow rows term (term_row symbol args) → IsTermText names rows term (symbol_text (names symbol))
+  no_args symbol [] empty here = constant here
+  no_args symbol (x ∷ xs) empty here = absurd (omega arith)
+
+  pub constant_text : length row.args ≡ 0 → IsTermText names rows term (symbol_text (names row.symbol))
+  constant_text empty = no_args row.symbol row.args empty has
+
+  some_args : (symbol : ℕ) (args text : List ℕ) → length args ≢ 0 → HasRow rows term (term_row symbol args) → AreTermTexts names rows args text
+      → IsTermText names rows term (40 ∷ symbol_text (names symbol) ++ text ++ 41 ∷ [])
+  some_args symbol [] text some here texts = absurd (some refl)
+  some_args symbol (x ∷ xs) text some here texts = application here texts
+
+  pub application_text : (text : List ℕ) → length row.args ≢ 0 → AreTermTexts names rows row.args text → IsTermText names rows term (40 ∷ symbol_text (names row.symbol) ++ text ++ 41 ∷ [])
+  application_text text some texts = some_args row.symbol row.args text some has texts
+
+module _ (names : ℕ → List ℕ) (rows : List TermRow) (term : ℕ) (args : List ℕ) where
+  -- What is written of an application, up to some argument: the texts of the others complete it.
+  abbrev pub Completes : ℕ → List ℕ → Type 0
+  Completes i added = (rest : List ℕ) → AreTermTexts names rows (drop i args) rest → IsTermText names rows term (added ++ rest ++ 41 ∷ [])
+
+  pub one_more : (i x : ℕ) (added text : List ℕ) → slice_get args i ≡ Some x → IsTermText names rows x text → Completes i added → Completes (i + 1) (added ++ 32 ∷ text)
+  one_more i x added text at is completes rest texts =
+      subst (λ (z : List ℕ). IsTermText names rows term (z ++ 41 ∷ [])) (sym (append_assoc added (32 ∷ text) rest))
+      (completes (32 ∷ text ++ rest) (subst (λ (zs : List ℕ). AreTermTexts names rows zs (32 ∷ text ++ rest)) (sym (drop_at args i x at)) (texts_more is texts)))
+
+  pub no_more : (i : ℕ) (added : List ℕ) → length args ≤ i → Completes i added → IsTermText names rows term (added ++ 41 ∷ [])
+  no_more i added past completes =
+      subst (λ (z : List ℕ). IsTermText names rows term (z ++ 41 ∷ [])) (append-nil added)
+      (completes [] (subst (λ (zs : List ℕ). AreTermTexts names rows zs []) (sym (drop_all i args past)) texts_none))
+
+module _ {A : Type 0} (IsTextOf : A → List ℕ → Type 0) (things : List A) where
+  -- What is written of joined texts, up to some thing: the texts of the others complete it.
+  pub record IsUnderWay (old : List ℕ) (i : ℕ) (new : List ℕ) : Type 0 where
+    pub added : List ℕ
+    pub is : new ≡ old ++ added
+    pub completes : (rest : List ℕ) → AreJoined IsTextOf (drop i things) rest → AreJoined IsTextOf things (added ++ rest)
+
+  pub under_way_none : (old : List ℕ) → IsUnderWay old 0 old
+  under_way_none old = record { added = []; is = sym (append-nil old); completes = λ rest texts. texts }
+
+  pub under_way_more : (old : List ℕ) (i : ℕ) (mid new : List ℕ) (thing : A) → slice_get things i ≡ Some thing → Puts (IsTextOf thing) mid new → IsUnderWay old i mid → IsUnderWay old (i + 1) new
+  under_way_more old i mid new thing at text way = record {
+    added = way.added ++ text.0;
+    is = put_two old way.added text.0 mid new way.is text.2;
+    completes = λ rest texts.
+        subst (AreJoined IsTextOf things) (sym (append_assoc way.added text.0 rest))
+        (way.completes (text.0 ++ rest) (subst (λ (ts : List A). AreJoined IsTextOf ts (text.0 ++ rest)) (sym (drop_at things i thing at)) (joined_more text.1 texts)));
+  }
+
+  pub under_way_all : (old : List ℕ) (i : ℕ) (new : List ℕ) → length things ≤ i → IsUnderWay old i new → Puts (AreJoined IsTextOf things) old new
+  under_way_all old i new past way =
+      (way.added, subst (AreJoined IsTextOf things) (append-nil way.added) (way.completes [] (subst (λ (ts : List A). AreJoined IsTextOf ts []) (sym (drop_all i things past)) joined_none)), way.is)

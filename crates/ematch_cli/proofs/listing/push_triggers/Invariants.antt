@@ -1,0 +1,8 @@
+use Rattle.term_table.specs.Standing.{triggers_of}
+use Rattle.ematch_cli.specs.Names.{names_of}
+use Rattle.ematch_cli.specs.Listing.{IsTriggerListing}
+use Rattle.ematch_cli.proofs.Texts.{IsUnderWay}
+use Rattle.ematch_cli.proofs.listing.push_triggers.Given as goal
+
+abbrev pub invariant-loop-n : goal.invariant-loop-n
+invariant-loop-n g l = IsUnderWay (IsTriggerListing (names_of l.session) (g.G.ClassGraph.standing l.graph)) (triggers_of (g.G.ClassGraph.standing l.graph)) l.fn.text.items l.n l.text.items

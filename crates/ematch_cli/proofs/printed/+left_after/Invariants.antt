@@ -1,0 +1,10 @@
+use Rattle.std.proofs.Common.{◌-◌, ◌<◌, drop}
+use Rattle.term_table.specs.Standing.{terms_of}
+use Rattle.ematch_cli.proofs.TreeSizes.{AreCounted}
+use Rattle.ematch_cli.proofs.printed.+left_after.Given as goal
+
+abbrev pub decreases-left_after : goal.decreases-left_after
+decreases-left_after g l = l.most
+
+abbrev pub invariant-loop-i : goal.invariant-loop-i
+invariant-loop-i g l = (l.left < l.most) × AreCounted (terms_of (g.G.ClassGraph.standing l.graph)) l.args (drop l.i l.args) (l.most - 1 - l.left)

@@ -1,0 +1,70 @@
+use Rattle.std.proofs.Common.{◌≡◌, List, ℕ, arith, sym, ◌∙◌, ap, subst}
+use Rattle.em_outside.specs.Bytes.{Appended}
+use Rattle.ematch_cli.specs.Run.{run_state}
+use Rattle.ematch_cli.specs.Headline.{WroteFront}
+use Rattle.ematch_cli.proofs.Exits.{done, read_fault, reader_memory, reply_memory, write_fault, next, refused_command, refused_bytes}
+use Rattle.ematch_cli.proofs.script.answer_script.Goals as goal
+
+pub returns-then-not-write_text-clause-answers : goal.returns-then-not-write_text-clause-answers
+returns-then-not-write_text-clause-answers g c =
+    let read = rw c.in-Ok-Some.field-0-is at c.in-Ok-Some.ensures in
+    write_fault c.args.limits.now (g.I.Source.left c.args.input.now) (g.I.Source.left c.loop-tree.input) (g.I.Source.left c.next_tree.new.source) (g.O.Sink.written c.args.out.now) (g.O.Sink.written c.loop-tree.out) (g.O.Sink.written c.write_text.new.out)
+    (run_state c.loop-tree.session c.loop-tree.graph) c.loop-tree.reader c.next_tree.new.self c.loop-tree.invariant.reached c.in-Ok-Some.tree (run_state c.reply.new.session c.reply.new.graph) c.in-Ok-reply.text.items
+    (read.reads c.loop-tree.invariant.no_fault) c.in-Ok-reply.ensures.ok
+    (subst (λ (text : List ℕ). WroteFront (g.O.Sink.written c.loop-tree.out) (g.O.Sink.written c.write_text.new.out) text) c.as_slice.ensures.value c.if-not-write_text.ensures.front.1)
+
+pub returns-in-Refused-clause-answers : goal.returns-in-Refused-clause-answers
+returns-in-Refused-clause-answers g c =
+    let read = rw c.in-Ok-Some.field-0-is at c.in-Ok-Some.ensures in
+    refused_command c.args.limits.now (g.I.Source.left c.args.input.now) (g.I.Source.left c.loop-tree.input) (g.I.Source.left c.next_tree.new.source) (g.O.Sink.written c.args.out.now) (g.O.Sink.written c.loop-tree.out) (g.O.Sink.written c.refuse.new.out)
+    (run_state c.loop-tree.session c.loop-tree.graph) c.loop-tree.reader c.next_tree.new.self c.loop-tree.invariant.reached c.in-Ok-Some.tree c.refuse.result
+    (read.reads c.loop-tree.invariant.no_fault) (c.in-Err-reply.ensures.refused (cc))
+    (record { is = c.refuse.ensures.status; whole = c.refuse.ensures.error; front = λ e. (c.refuse.ensures.fault e).1 })
+
+pub returns-in-Memory-clause-answers : goal.returns-in-Memory-clause-answers
+returns-in-Memory-clause-answers g c =
+    let read = rw c.in-Ok-Some.field-0-is at c.in-Ok-Some.ensures in
+    reply_memory c.args.limits.now (g.I.Source.left c.args.input.now) (g.I.Source.left c.loop-tree.input) (g.I.Source.left c.next_tree.new.source) (g.O.Sink.written c.args.out.now) (g.O.Sink.written c.loop-tree.out) (g.O.Sink.written c.loop-tree.out)
+    (run_state c.loop-tree.session c.loop-tree.graph) c.loop-tree.reader c.next_tree.new.self c.loop-tree.invariant.reached c.in-Ok-Some.tree (read.reads c.loop-tree.invariant.no_fault)
+
+pub loop-tree-preserved : goal.loop-tree-preserved
+loop-tree-preserved g c =
+    let read = rw c.in-Ok-Some.field-0-is at c.in-Ok-Some.ensures in
+    let given = (read.reads c.loop-tree.invariant.no_fault).answer in
+    record {
+      reached = next c.args.limits.now (g.I.Source.left c.args.input.now) (g.I.Source.left c.loop-tree.input) (g.I.Source.left c.next_tree.new.source) (g.O.Sink.written c.args.out.now) (g.O.Sink.written c.loop-tree.out) (g.O.Sink.written c.write_text.new.out)
+          (run_state c.loop-tree.session c.loop-tree.graph) c.loop-tree.reader c.next_tree.new.self c.loop-tree.invariant.reached c.in-Ok-Some.tree (run_state c.reply.new.session c.reply.new.graph) c.in-Ok-reply.text.items
+          (read.reads c.loop-tree.invariant.no_fault) c.in-Ok-reply.ensures.ok
+          (subst (λ (text : List ℕ). Appended (g.O.Sink.written c.loop-tree.out) (g.O.Sink.written c.write_text.new.out) text) c.as_slice.ensures.value c.if-not-write_text.ensures.whole);
+      no_fault = ap (λ r. r.fault) given.moved;
+      limits = ap (λ r. r.limits) given.moved ∙ c.loop-tree.invariant.limits;
+      levels = c.in-Ok-reply.ensures.levels;
+      input_later = omega (arith, c.next_tree.ensures.later, c.loop-tree.invariant.input_later);
+      out_later = omega (arith, c.write_text.ensures.later, c.loop-tree.invariant.out_later);
+    }
+
+pub returns-in-Ok-None-clause-answers : goal.returns-in-Ok-None-clause-answers
+returns-in-Ok-None-clause-answers g c =
+    let read = rw c.in-Ok-None.field-0-is at c.in-Ok-None.ensures in
+    done c.args.limits.now (g.I.Source.left c.args.input.now) (g.I.Source.left c.loop-tree.input) (g.I.Source.left c.next_tree.new.source) (g.O.Sink.written c.args.out.now) (g.O.Sink.written c.loop-tree.out) (g.O.Sink.written c.loop-tree.out)
+    (run_state c.loop-tree.session c.loop-tree.graph) c.loop-tree.reader c.next_tree.new.self c.loop-tree.invariant.reached (read.reads c.loop-tree.invariant.no_fault)
+
+pub returns-in-ReadFault-clause-answers : goal.returns-in-ReadFault-clause-answers
+returns-in-ReadFault-clause-answers g c =
+    let read = rw c.in-ReadFault.is at c.in-Err.ensures in
+    read_fault c.args.limits.now (g.I.Source.left c.args.input.now) (g.I.Source.left c.loop-tree.input) (g.I.Source.left c.next_tree.new.source) (g.O.Sink.written c.args.out.now) (g.O.Sink.written c.loop-tree.out) (g.O.Sink.written c.loop-tree.out)
+    (run_state c.loop-tree.session c.loop-tree.graph) c.loop-tree.reader c.next_tree.new.self c.loop-tree.invariant.reached (read.reads c.loop-tree.invariant.no_fault)
+
+pub returns-in-Memory-fault-clause-answers : goal.returns-in-Memory-fault-clause-answers
+returns-in-Memory-fault-clause-answers g c =
+    let read = rw c.in-Memory-fault.is at c.in-Err.ensures in
+    reader_memory c.args.limits.now (g.I.Source.left c.args.input.now) (g.I.Source.left c.loop-tree.input) (g.I.Source.left c.next_tree.new.source) (g.O.Sink.written c.args.out.now) (g.O.Sink.written c.loop-tree.out) (g.O.Sink.written c.loop-tree.out)
+    (run_state c.loop-tree.session c.loop-tree.graph) c.loop-tree.reader c.next_tree.new.self c.loop-tree.invariant.reached (read.reads c.loop-tree.invariant.no_fault)
+
+pub returns-in-NotBuilt-clause-answers : goal.returns-in-NotBuilt-clause-answers
+returns-in-NotBuilt-clause-answers g c =
+    let read = rw c.in-NotBuilt.is at c.in-Err.ensures in
+    refused_bytes c.args.limits.now (g.I.Source.left c.args.input.now) (g.I.Source.left c.loop-tree.input) (g.I.Source.left c.next_tree.new.source) (g.O.Sink.written c.args.out.now) (g.O.Sink.written c.loop-tree.out) (g.O.Sink.written c.refuse-in-NotBuilt.new.out)
+    (run_state c.loop-tree.session c.loop-tree.graph) c.loop-tree.reader c.next_tree.new.self c.loop-tree.invariant.reached c.in-NotBuilt.place c.refuse-in-NotBuilt.result
+    (read.reads c.loop-tree.invariant.no_fault)
+    (record { is = c.refuse-in-NotBuilt.ensures.status; whole = c.refuse-in-NotBuilt.ensures.error; front = λ e. (c.refuse-in-NotBuilt.ensures.fault e).1 })

@@ -1,0 +1,58 @@
+-- What a run leaves outside, by the status that it answers.
+use Rattle.std.specs.Prelude.{◌≡◌, ◌≢◌, ◌⊎◌, ℕ, List, ◌++◌, Option, IfSome}
+use Rattle.std.specs.Io.KnownBytes.{Consumes}
+use Rattle.em_outside.specs.Bytes.{Appended, Exhausts}
+use Rattle.em_outside.specs.Causes.{Rose}
+use Rattle.em_outside.specs.declared.limits.Limits.{Limits}
+use Rattle.ematch_cli.specs.Status.{text_of}
+use Rattle.ematch_cli.specs.Output.{Answer, Ending, Open, Finished, Failed, IsOutput, IsOutputSoFar}
+use Rattle.ematch_cli.specs.declared.status.Status.{Status}
+use Rattle.ematch_cli.specs.declared.status.Status.TheVariants.{Done, ScriptError, WordsRefused, ReadFault, WriteFault, NoMemory}
+
+-- a sink gained the whole of such an answer, which ends so
+abbrev pub Wrote : Option (List ℕ) → Option (List ℕ) → (Answer → Type 0) → Ending → Type 0
+Wrote old new IsIt ending = (answer : Answer) × IsIt answer × (answer.ending ≡ ending) × Appended old new answer.bytes
+
+-- the bytes begin with this front
+abbrev pub BeginsWith : List ℕ → List ℕ → Type 0
+BeginsWith front bytes = (rest : List ℕ) × (bytes ≡ front ++ rest)
+
+-- a sink gained a front of these bytes
+abbrev pub WroteFront : Option (List ℕ) → Option (List ℕ) → List ℕ → Type 0
+WroteFront old new bytes = (front : List ℕ) × BeginsWith front bytes × Appended old new front
+
+-- a sink gained a front of each such answer
+abbrev pub WroteFrontOf : Option (List ℕ) → Option (List ℕ) → (Answer → Type 0) → Type 0
+WroteFrontOf old new IsIt = (front : List ℕ) × ((answer : Answer) → IsIt answer → BeginsWith front answer.bytes) × Appended old new front
+
+-- What stands on the output after a run that took these bytes from an input that had some left.
+abbrev pub Stands : Limits → Option (List ℕ) → List ℕ → Option (List ℕ) → Option (List ℕ) → Status → Type 0
+-- the whole input was read, and the whole output written
+Stands limits input taken old new Done = Exhausts input taken × Wrote old new (IsOutput limits taken) Finished
+-- the bytes taken hold an error, or all bytes do whose end was read; so the output of the whole input was written
+Stands limits input taken old new ScriptError =
+    (Wrote old new (IsOutputSoFar limits taken) Failed ⊎ (Exhausts input taken × Wrote old new (IsOutput limits taken) Failed))
+    × IfSome input (λ all. Wrote old new (IsOutput limits all) Failed)
+-- the commands that are whole in the bytes taken were answered
+Stands limits input taken old new ReadFault = Wrote old new (IsOutputSoFar limits taken) Open
+-- a front of these answers was written, or one of the whole output, where the input's end was read
+Stands limits input taken old new WriteFault = WroteFrontOf old new (IsOutputSoFar limits taken) ⊎ (Exhausts input taken × WroteFrontOf old new (IsOutput limits taken))
+Stands limits input taken old new NoMemory = WroteFrontOf old new (IsOutputSoFar limits taken) ⊎ (Exhausts input taken × WroteFrontOf old new (IsOutput limits taken))
+Stands limits input taken old new WordsRefused = ⊥
+
+-- the status is none of a refused write or refused memory
+abbrev pub IsUndisturbed : Status → Type 0
+IsUndisturbed status = (status ≢ WriteFault) × (status ≢ NoMemory)
+
+-- The bytes taken in the run, and what then stands on the output. The status is that of an error wherever the bytes taken
+-- hold one, and wherever they do as the whole input and no read failed.
+pub record Answers (limits : Limits) (in_old in_new out_old out_new : Option (List ℕ)) (status : Status) : Type 0 where
+  pub taken : List ℕ
+  pub given : Consumes in_old in_new taken
+  pub stands : Stands limits in_old taken out_old out_new status
+  pub error_so_far : (answer : Answer) → IsOutputSoFar limits taken answer → answer.ending ≡ Failed → IsUndisturbed status → status ≡ ScriptError
+  pub error_at_end : (answer : Answer) → IsOutput limits taken answer → answer.ending ≡ Failed → IsUndisturbed status → status ≢ ReadFault → status ≡ ScriptError
+
+-- the status's text was written whole, or in part where a write failed
+abbrev pub Reports : Option (List ℕ) → Option (List ℕ) → ℕ → ℕ → Status → Type 0
+Reports old new before now status = Appended old new (text_of status) ⊎ (Rose before now × WroteFront old new (text_of status))

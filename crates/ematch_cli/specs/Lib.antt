@@ -1,0 +1,11 @@
+pub mod Joined
+pub mod Names
+pub mod Printed
+pub mod Writing
+pub mod Listing
+pub mod Run
+pub mod Entered
+pub mod Status
+pub mod Words
+pub mod Output
+pub mod Headline

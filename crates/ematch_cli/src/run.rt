@@ -1,0 +1,68 @@
+//! The top call.
+ghost use Rattle.std.specs.Prelude.{◌≡◌, ◌↔◌, IsTrue};
+ghost use Rattle.em_outside.specs.Causes.{Rose};
+ghost use Rattle.em_outside.specs.Limits.{AreLawful};
+ghost use Rattle.ematch_cli.specs.Headline.{Answers, Reports};
+ghost use Rattle.ematch_cli.specs.Words.{AreWords};
+
+use crate::script::answer_script;
+use crate::status::{Status, text_of};
+use em_outside::{Limits, Sink, Source, write_all};
+use std::alloc::Global;
+
+/// The words are `matches` alone.
+fn are_words(words: &[String]) -> bool
+    ensures { IsTrue result ↔ AreWords words.now }
+{
+    match words {
+        [word] => word.as_str() == "matches",
+        _ => false,
+    }
+}
+
+/// Reads the script on the input, writes its answer to the output, and says on `err` what went wrong outside.
+///
+/// The words are those behind the program's name. It returns in every case, whatever the bytes, the faults and the memory.
+pub fn run_alone<I: Source, O: Sink, E: Sink>(
+    alloc: Global,
+    words: &[String],
+    limits: &Limits,
+    input: &mut I,
+    out: &mut O,
+    err: &mut E,
+) -> Status
+    requires { AreLawful limits.now }
+
+    // The words are refused exactly where they are not of the form, and then nothing is read or written.
+    ensures refused { (result ≡ Status.WordsRefused) ↔ (AreWords words.now → ⊥) }
+    ensures untouched { result ≡ Status.WordsRefused → (input.new ≡ input.old) × (out.new ≡ out.old) }
+
+    // What stands on the output is the script's answer, as far as the status says, and an error has its own status.
+    ensures answers { AreWords words.now
+        → Answers limits.now (I.left input.old) (I.left input.new) (O.written out.old) (O.written out.new) result }
+
+    // A fault is answered only where the count of what failed rose.
+    ensures read_fault { result ≡ Status.ReadFault → Rose (I.fault_count input.old) (I.fault_count input.new) }
+    ensures write_fault { result ≡ Status.WriteFault → Rose (O.fault_count out.old) (O.fault_count out.new) }
+
+    // The status is told on `err`, and a fault of `err` changes nothing else.
+    ensures reports { Reports (E.written err.old) (E.written err.new) (E.fault_count err.old) (E.fault_count err.new) result }
+{
+    let status = if are_words(words) {
+        answer_script(alloc, limits, input, out)
+    } else {
+        Status::WordsRefused
+    };
+    report(err, status);
+    status
+}
+
+/// Says on `err` what the status means, in a line, or nothing where all went well outside.
+pub fn report<E: Sink>(err: &mut E, status: Status)
+    ensures { Reports (E.written err.old) (E.written err.new) (E.fault_count err.old) (E.fault_count err.new) status }
+{
+    match write_all(err, text_of(status)) {
+        Ok(()) => {}
+        Err(_) => {}
+    }
+}
