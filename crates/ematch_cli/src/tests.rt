@@ -1,3 +1,5 @@
+mod graphs;
+
 use super::*;
 use em_outside::{Limits, MemSink, MemSource, Sink, Source};
 use std::alloc::AllocError;
