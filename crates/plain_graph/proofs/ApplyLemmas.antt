@@ -1,17 +1,16 @@
 -- What one operation more does to the terms, the equations and the labels.
-use Rattle.std.proofs.Common.{◌≡◌, ℕ, ◌+◌, ◌<◌, ◌≤◌, ◌^◌, List, [], ◌∷◌, ◌++◌, length, take, drop, append-nil, refl, sym, ap, subst, ◌∙◌, ⊎_elim, Bool, cond, arith}
+use Rattle.std.proofs.Common.{◌≡◌, ℕ, ◌+◌, ◌<◌, ◌≤◌, ◌^◌, List, [], ◌∷◌, ◌++◌, length, take, drop, append-nil, refl, sym, ap, subst, ◌∙◌, Bool, cond, arith}
 use Rattle.std.specs.List.{filter_map}
-use Rattle.std.proofs.lemmas.List.{length-append, length-take, take-append-le, take_all, take-append-drop, take-take}
-use Rattle.std.proofs.lemmas.Bool.{cases_lt}
+use Rattle.std.proofs.lemmas.List.{length-append, length-take, take-append-le, take_all, take-append-drop}
 use Rattle.std.proofs.lemmas.List.Sums.{sum_by-append}
 use Rattle.plain_graph.specs.Operations.{AllowsOpRow, levels_opened}
 use Rattle.term_table.specs.Same.{Derives, same_term}
-use Rattle.std.proofs.lemmas.List.Elements.{filter_map-append, Contains-append_cases, Contains-push_cases}
+use Rattle.std.proofs.lemmas.List.Elements.{filter_map-append}
 use Rattle.term_table.specs.declared.term_row.TermRow.{TermRow}
 use Rattle.term_table.specs.declared.done.Done.{Done}
 use Rattle.term_table.specs.declared.op.Op.{Op}
 use Rattle.term_table.specs.declared.op.Op.TheVariants.{Add, Merge, Differ, Live, Push, Pop}
-use Rattle.term_table.specs.Terms.{term_row, first_rows, IsTable}
+use Rattle.term_table.specs.Terms.{term_row, first_rows}
 use Rattle.term_table.specs.Standing.{added_row, is_push, levels_of, terms_of, merges_of, rows_added, merges_added}
 use Rattle.plain_graph.specs.Labels.{labels_added}
 use Rattle.plain_graph.specs.Labels.{AreOwn, label_of, AreSound, AreMerged, AreCongruent}

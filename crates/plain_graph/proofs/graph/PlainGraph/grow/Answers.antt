@@ -4,7 +4,7 @@ use Rattle.term_table.specs.Terms.{Table}
 use Rattle.term_table.specs.State.{GraphState}
 use Rattle.term_table.specs.Lawful.{Allows}
 use Rattle.plain_graph.specs.PlainInside.{AreKept}
-use Rattle.term_table.specs.Standing.{levels_of, terms_of}
+use Rattle.term_table.specs.Standing.{levels_of}
 use Rattle.plain_graph.specs.Operations.{AllowsOpRow}
 use Rattle.plain_graph.proofs.ApplyLemmas.{ends_before_close, sound_before_close, AreKept-after, levels_of-push, levels_opened-few, AllowsOpRow-allowed}
 use Rattle.plain_graph.proofs.graph.PlainGraph.grow.Goals as goal
