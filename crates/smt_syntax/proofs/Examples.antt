@@ -1,15 +1,14 @@
 -- The definition on some commands.
-use Rattle.std.proofs.Common.{◌≡◌, ℕ, List, [], ◌∷◌, true, false, Option, Some, None, refl, codes}
+use Rattle.std.proofs.Common.{◌≡◌, ℕ, List, [], ◌∷◌, true, Some, None, refl, codes}
 use Rattle.em_outside.specs.declared.limits.Limits.{Limits}
 use Rattle.smt_text.specs.Word.{Word}
-use Rattle.smt_text.specs.declared.token.Kind.{Kind}
-use Rattle.smt_text.specs.declared.token.Kind.TheVariants.{Left, Right, Symbol, Keyword, Numeral}
+use Rattle.smt_text.specs.declared.token.Kind.TheVariants.{Left, Right, Symbol, Keyword}
 use Rattle.smt_text.specs.Trees.{ahead}
 use Rattle.term_table.specs.Terms.{term_row}
 use Rattle.term_table.specs.declared.pattern_row.PatternRow.TheVariants.{Var, App}
 use Rattle.smt_syntax.specs.declared.sort.Sort.TheVariants.{Individual}
 use Rattle.smt_syntax.specs.declared.shape.Shape.TheVariants.{Equation, Forall}
-use Rattle.smt_syntax.specs.declared.command.Command.TheVariants.{Silent, Assert, Pop}
+use Rattle.smt_syntax.specs.declared.command.Command.TheVariants.{Silent, Assert}
 use Rattle.smt_syntax.specs.State.{State, start}
 use Rattle.smt_syntax.specs.Names.{is_reserved, is_core}
 use Rattle.smt_syntax.specs.Elaborate.{elaborate}

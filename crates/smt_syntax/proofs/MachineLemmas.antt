@@ -1,5 +1,5 @@
 -- The steps of the reader of terms leave as much to do as before.
-use Rattle.std.proofs.Common.{◌≡◌, ℕ, zero, suc, ◌+◌, ◌*◌, ◌<◌, ◌≤◌, ◌-◌, List, [], ◌∷◌, ◌++◌, length, take, drop, map, reverse, Bool, true, false, Option, Some, None, Result, Ok, Err, sym, ap, ◌∙◌, refl, subst, arith, append_assoc, length-append}
+use Rattle.std.proofs.Common.{◌≡◌, ℕ, ◌+◌, ◌<◌, ◌≤◌, ◌-◌, List, [], ◌∷◌, ◌++◌, length, take, drop, map, true, false, Option, Some, None, Result, Ok, Err, sym, ap, ◌∙◌, refl, subst, append_assoc}
 use Rattle.std.proofs.lemmas.List.{append-nil, reverse-append}
 use Rattle.smt_text.specs.Word.{Word}
 use Rattle.smt_text.specs.Trees.{Trees, End, Token, Group, ahead, outermost, outer}
@@ -26,7 +26,7 @@ module _ (scope : Scope) where
   takes fs earlier v trees rows = by (values scope (outermost trees) rows)
     where
       by : (r : Option (List Value × Rows)) → then_from (λ (us : List Value). finish scope fs (earlier ++ v ∷ us) (outer trees)) r
-        ≡ then_from (λ (us : List Value). finish scope fs ((earlier ++ v ∷ []) ++ us) (outer trees)) r
+          ≡ then_from (λ (us : List Value). finish scope fs ((earlier ++ v ∷ []) ++ us) (outer trees)) r
       by None = refl
       by (Some d) = ap (λ (us : List Value). finish scope fs us (outer trees) d.1) (sym (append_assoc earlier (v ∷ []) d.0))
 
@@ -37,40 +37,40 @@ module _ (scope : Scope) where
   token_passed fs done w trees rows = by (alone (meaning scope w) rows)
     where
       inner : (v : Value) (r : Option (List Value × Rows))
-        → then_from (λ (us : List Value). finish scope fs (done ++ us) (outer trees)) (then_from (λ (us : List Value). made (v ∷ us)) r)
-        ≡ then_from (λ (us : List Value). finish scope fs (done ++ v ∷ us) (outer trees)) r
+          → then_from (λ (us : List Value). finish scope fs (done ++ us) (outer trees)) (then_from (λ (us : List Value). made (v ∷ us)) r)
+          ≡ then_from (λ (us : List Value). finish scope fs (done ++ v ∷ us) (outer trees)) r
       inner v None = refl
       inner v (Some d) = refl
 
       by : (r : Option (Value × Rows))
-        → then_from (λ (us : List Value). finish scope fs (done ++ us) (outer trees)) (then_from (λ (v : Value). values scope (outermost trees) >>= λ (us : List Value). made (v ∷ us)) r)
-        ≡ then_from (λ (v : Value). resume scope fs (done ++ v ∷ []) trees) r
+          → then_from (λ (us : List Value). finish scope fs (done ++ us) (outer trees)) (then_from (λ (v : Value). values scope (outermost trees) >>= λ (us : List Value). made (v ∷ us)) r)
+          ≡ then_from (λ (v : Value). resume scope fs (done ++ v ∷ []) trees) r
       by None = refl
       by (Some d) = inner d.0 (values scope (outermost trees) d.1) ∙ takes fs done d.0 trees d.1
 
   -- a list begins
   pub list_begins : (fs : List Open) (done : List Value) (p h : Word) (trees : List Trees) (rows : Rows)
       → resume scope fs done (Group p (Token h (outermost trees)) (outermost (outer trees)) ∷ outer (outer trees)) rows
-        ≡ resume scope (record { name = meaning scope h; earlier = done } ∷ fs) [] trees rows
+      ≡ resume scope (record { name = meaning scope h; earlier = done } ∷ fs) [] trees rows
   unfolding resume finish
   list_begins fs done p h trees rows = by (values scope (outermost trees) rows)
     where
       last : (v : Value) (r : Option (List Value × Rows))
-        → then_from (λ (us : List Value). finish scope fs (done ++ us) (outer (outer trees))) (then_from (λ (us : List Value). made (v ∷ us)) r)
-        ≡ then_from (λ (us : List Value). finish scope fs (done ++ v ∷ us) (outer (outer trees))) r
+          → then_from (λ (us : List Value). finish scope fs (done ++ us) (outer (outer trees))) (then_from (λ (us : List Value). made (v ∷ us)) r)
+          ≡ then_from (λ (us : List Value). finish scope fs (done ++ v ∷ us) (outer (outer trees))) r
       last v None = refl
       last v (Some d) = refl
 
       inner : (r : Option (Value × Rows))
-        → then_from (λ (us : List Value). finish scope fs (done ++ us) (outer (outer trees))) (then_from (λ (v : Value). values scope (outermost (outer trees)) >>= λ (us : List Value). made (v ∷ us)) r)
-        ≡ then_from (λ (v : Value). values scope (outermost (outer trees)) >>= λ (us : List Value). finish scope fs (done ++ v ∷ us) (outer (outer trees))) r
+          → then_from (λ (us : List Value). finish scope fs (done ++ us) (outer (outer trees))) (then_from (λ (v : Value). values scope (outermost (outer trees)) >>= λ (us : List Value). made (v ∷ us)) r)
+          ≡ then_from (λ (v : Value). values scope (outermost (outer trees)) >>= λ (us : List Value). finish scope fs (done ++ v ∷ us) (outer (outer trees))) r
       inner None = refl
       inner (Some d) = last d.0 (values scope (outermost (outer trees)) d.1)
 
       by : (r : Option (List Value × Rows))
-        → then_from (λ (us : List Value). finish scope fs (done ++ us) (outer (outer trees)))
-            (then_from (λ (args : List Value). applied (meaning scope h) args >>= λ (v : Value). values scope (outermost (outer trees)) >>= λ (us : List Value). made (v ∷ us)) r)
-        ≡ then_from (λ (us : List Value). finish scope (record { name = meaning scope h; earlier = done } ∷ fs) ([] ++ us) (outer trees)) r
+          → then_from (λ (us : List Value). finish scope fs (done ++ us) (outer (outer trees)))
+          (then_from (λ (args : List Value). applied (meaning scope h) args >>= λ (v : Value). values scope (outermost (outer trees)) >>= λ (us : List Value). made (v ∷ us)) r)
+          ≡ then_from (λ (us : List Value). finish scope (record { name = meaning scope h; earlier = done } ∷ fs) ([] ++ us) (outer trees)) r
       by None = refl
       by (Some d) = inner (applied (meaning scope h) d.0 d.1)
 
@@ -100,17 +100,17 @@ module _ (scope : Scope) where
       → finish scope (opens old) done trees rows ≡ resume scope (opens rest) around trees later
   unfolding finish
   closes_on old rest f done around v rows later trees was gives more =
-    ap (λ (os : List Open). finish scope os done trees rows) (ap opens was ∙ ap (map open_of) (reverse-append rest (f ∷ [])))
-    ∙ ap (then_from (λ (u : Value). values scope (outermost trees) >>= λ (us : List Value). finish scope (opens rest) (f.earlier.items ++ u ∷ us) (outer trees))) gives
-    ∙ takes (opens rest) f.earlier.items v trees later
-    ∙ ap (λ (vs : List Value). resume scope (opens rest) vs trees later) (sym more)
+      ap (λ (os : List Open). finish scope os done trees rows) (ap opens was ∙ ap (map open_of) (reverse-append rest (f ∷ [])))
+      ∙ ap (then_from (λ (u : Value). values scope (outermost trees) >>= λ (us : List Value). finish scope (opens rest) (f.earlier.items ++ u ∷ us) (outer trees))) gives
+      ∙ takes (opens rest) f.earlier.items v trees later
+      ∙ ap (λ (vs : List Value). resume scope (opens rest) vs trees later) (sym more)
 
   pub closes_refused : (old rest : List Frame) (f : Frame) (done : List Value) (rows : Rows) (trees : List Trees)
       → old ≡ rest ++ f ∷ [] → applied f.name done rows ≡ None → finish scope (opens old) done trees rows ≡ None
   unfolding finish
   closes_refused old rest f done rows trees was refused =
-    ap (λ (os : List Open). finish scope os done trees rows) (ap opens was ∙ ap (map open_of) (reverse-append rest (f ∷ [])))
-    ∙ ap (then_from (λ (u : Value). values scope (outermost trees) >>= λ (us : List Value). finish scope (opens rest) (f.earlier.items ++ u ∷ us) (outer trees))) refused
+      ap (λ (os : List Open). finish scope os done trees rows) (ap opens was ∙ ap (map open_of) (reverse-append rest (f ∷ [])))
+      ∙ ap (then_from (λ (u : Value). values scope (outermost trees) >>= λ (us : List Value). finish scope (opens rest) (f.earlier.items ++ u ∷ us) (outer trees))) refused
 
   pub closes_none : (old : List Frame) (done : List Value) (rows : Rows) (trees : List Trees) → old ≡ [] → finish scope (opens old) done trees rows ≡ Some (done, rows)
   unfolding finish
@@ -134,9 +134,10 @@ module _ (scope : Scope) where
       → rest_of scope words old done i rows ≡ finish scope (opens old) done (ahead (drop next words)) rows
       → (length new < length old → work words new next < work words old i)
       → Closes scope old new done more rows later result next → Goes scope words old new done more rows later i result
-  goes_closed words old new done more rows later i next (Ok (Some j)) e falls closes =
-    (e ∙ closes.2 (ahead (drop next words)) ∙ ap (λ (k : ℕ). rest_of scope words new more k later) (sym closes.0),
-     subst (λ (k : ℕ). work words new k < work words old i) (sym closes.0) (falls closes.1))
+  goes_closed words old new done more rows later i next (Ok (Some j)) e falls closes = (
+    e ∙ closes.2 (ahead (drop next words)) ∙ ap (λ (k : ℕ). rest_of scope words new more k later) (sym closes.0),
+    subst (λ (k : ℕ). work words new k < work words old i) (sym closes.0) (falls closes.1),
+  )
   goes_closed words old new done more rows later i next (Ok None) e falls closes = e ∙ closes (ahead (drop next words))
   goes_closed words old new done more rows later i next (Err NotBuilt) e falls closes = e ∙ closes (ahead (drop next words))
   goes_closed words old new done more rows later i next (Err Memory) e falls closes = tt {0}
@@ -147,18 +148,18 @@ module _ (scope : Scope) where
       → alone (meaning scope (word_at words i)) rows ≡ Some (v, later) → more ≡ done ++ v ∷ []
       → rest_of scope words frames done i rows ≡ rest_of scope words frames more (i + 1) later
   passes words frames done more v rows later i is gives grown =
-    ap (λ (ts : List Trees). resume scope (opens frames) done ts rows) is
-    ∙ token_passed (opens frames) done (word_at words i) (ahead (drop (i + 1) words)) rows
-    ∙ ap (then_from (λ (u : Value). resume scope (opens frames) (done ++ u ∷ []) (ahead (drop (i + 1) words)))) gives
-    ∙ ap (λ (vs : List Value). resume scope (opens frames) vs (ahead (drop (i + 1) words)) later) (sym grown)
+      ap (λ (ts : List Trees). resume scope (opens frames) done ts rows) is
+      ∙ token_passed (opens frames) done (word_at words i) (ahead (drop (i + 1) words)) rows
+      ∙ ap (then_from (λ (u : Value). resume scope (opens frames) (done ++ u ∷ []) (ahead (drop (i + 1) words)))) gives
+      ∙ ap (λ (vs : List Value). resume scope (opens frames) vs (ahead (drop (i + 1) words)) later) (sym grown)
 
   pub passes_refused : (words : List Word) (frames : List Frame) (done : List Value) (rows : Rows) (i : ℕ)
       → ahead (drop i words) ≡ Token (word_at words i) (here words (i + 1)) ∷ behind words (i + 1)
       → alone (meaning scope (word_at words i)) rows ≡ None → rest_of scope words frames done i rows ≡ None
   passes_refused words frames done rows i is refused =
-    ap (λ (ts : List Trees). resume scope (opens frames) done ts rows) is
-    ∙ token_passed (opens frames) done (word_at words i) (ahead (drop (i + 1) words)) rows
-    ∙ ap (then_from (λ (u : Value). resume scope (opens frames) (done ++ u ∷ []) (ahead (drop (i + 1) words)))) refused
+      ap (λ (ts : List Trees). resume scope (opens frames) done ts rows) is
+      ∙ token_passed (opens frames) done (word_at words i) (ahead (drop (i + 1) words)) rows
+      ∙ ap (then_from (λ (u : Value). resume scope (opens frames) (done ++ u ∷ []) (ahead (drop (i + 1) words)))) refused
 
   -- the beginning of a list
   pub begins : (words : List Word) (old new : List Frame) (f : Frame) (done more : List Value) (rows : Rows) (i j : ℕ)
@@ -167,21 +168,21 @@ module _ (scope : Scope) where
       → new ≡ old ++ f ∷ [] → open_of f ≡ record { name = meaning scope (word_at words (i + 1)); earlier = done } → more ≡ [] → j ≡ i + 1 + 1
       → rest_of scope words old done i rows ≡ rest_of scope words new more j rows
   begins words old new f done more rows i j is head same grown opened empty next =
-    ap (λ (ts : List Trees). resume scope (opens old) done ts rows)
+      ap (λ (ts : List Trees). resume scope (opens old) done ts rows)
       (is ∙ ap (λ (t : Trees). Group (word_at words i) t (outermost (behind words (i + 1))) ∷ outer (behind words (i + 1))) head
-          ∙ ap (λ (ts : List Trees). Group (word_at words i) (Token (word_at words (i + 1)) (here words (i + 1 + 1))) (outermost ts) ∷ outer ts) same)
-    ∙ list_begins (opens old) done (word_at words i) (word_at words (i + 1)) (ahead (drop (i + 1 + 1) words)) rows
-    ∙ ap (λ (o : Open). resume scope (o ∷ opens old) [] (ahead (drop (i + 1 + 1) words)) rows) (sym opened)
-    ∙ sym (ap (λ (os : List Open). resume scope os [] (ahead (drop (i + 1 + 1) words)) rows) (ap opens grown ∙ opens_push old f))
-    ∙ sym (ap (λ (vs : List Value). resume scope (opens new) vs (ahead (drop (i + 1 + 1) words)) rows) empty)
-    ∙ ap (λ (k : ℕ). resume scope (opens new) more (ahead (drop k words)) rows) (sym next)
+      ∙ ap (λ (ts : List Trees). Group (word_at words i) (Token (word_at words (i + 1)) (here words (i + 1 + 1))) (outermost ts) ∷ outer ts) same)
+      ∙ list_begins (opens old) done (word_at words i) (word_at words (i + 1)) (ahead (drop (i + 1 + 1) words)) rows
+      ∙ ap (λ (o : Open). resume scope (o ∷ opens old) [] (ahead (drop (i + 1 + 1) words)) rows) (sym opened)
+      ∙ sym (ap (λ (os : List Open). resume scope os [] (ahead (drop (i + 1 + 1) words)) rows) (ap opens grown ∙ opens_push old f))
+      ∙ sym (ap (λ (vs : List Value). resume scope (opens new) vs (ahead (drop (i + 1 + 1) words)) rows) empty)
+      ∙ ap (λ (k : ℕ). resume scope (opens new) more (ahead (drop k words)) rows) (sym next)
 
   pub begins_refused : (words : List Word) (old : List Frame) (done : List Value) (rows : Rows) (i : ℕ)
       → ahead (drop i words) ≡ Group (word_at words i) (here words (i + 1)) (outermost (behind words (i + 1))) ∷ outer (behind words (i + 1))
       → is_token (here words (i + 1)) ≡ false → rest_of scope words old done i rows ≡ None
   begins_refused words old done rows i is none =
-    ap (λ (ts : List Trees). resume scope (opens old) done ts rows) is
-    ∙ list_refused (opens old) done (word_at words i) (here words (i + 1)) (outermost (behind words (i + 1))) (outer (behind words (i + 1))) rows none
+      ap (λ (ts : List Trees). resume scope (opens old) done ts rows) is
+      ∙ list_refused (opens old) done (word_at words i) (here words (i + 1)) (outermost (behind words (i + 1))) (outer (behind words (i + 1))) rows none
 
 pub emptied : (old new : List Frame) (n : ℕ) → n ≡ 0 → new ≡ take (n - 1) old → old ≡ new ++ [] → old ≡ []
 emptied old new n none rest was = was ∙ ap (λ (xs : List Frame). xs ++ []) (rest ∙ ap (λ (k : ℕ). take (k - 1) old) none)
@@ -217,10 +218,10 @@ module _ (scope : Scope) (words : List Word) (frames : List Frame) (done : List 
   -- past the words the innermost list ends
   pub rest_ended : length words ≤ i → rest_of scope words frames done i rows ≡ finish scope (opens frames) done (ahead (drop i words)) rows
   rest_ended past =
-    let none = ahead_end words i past in
-    ap (λ (ts : List Trees). resume scope (opens frames) done ts rows) none ∙ words_end scope (opens frames) done rows ∙ sym (ap (λ (ts : List Trees). finish scope (opens frames) done ts rows) none)
+      let none = ahead_end words i past in
+      ap (λ (ts : List Trees). resume scope (opens frames) done ts rows) none ∙ words_end scope (opens frames) done rows ∙ sym (ap (λ (ts : List Trees). finish scope (opens frames) done ts rows) none)
 
   -- and so it does at a right parenthesis
   pub rest_closed : i < length words → is_right (word_at words i).kind ≡ true → rest_of scope words frames done i rows ≡ finish scope (opens frames) done (ahead (drop (i + 1) words)) rows
   rest_closed below right =
-    ap (λ (ts : List Trees). resume scope (opens frames) done ts rows) (ahead_right words i below right) ∙ list_ends scope (opens frames) done (ahead (drop (i + 1) words)) rows
+      ap (λ (ts : List Trees). resume scope (opens frames) done ts rows) (ahead_right words i below right) ∙ list_ends scope (opens frames) done (ahead (drop (i + 1) words)) rows

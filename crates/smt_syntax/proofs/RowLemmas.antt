@@ -1,5 +1,5 @@
 -- A row that is found by its key.
-use Rattle.std.proofs.Common.{◌≡◌, ℕ, zero, suc, ◌+◌, Bool, true, false, cond, nat_eq, ◌&&◌, List, [], ◌∷◌, ◌++◌, length, position, slice_get, Option, Some, None, Vec, refl, sym, ap, subst, ◌∙◌, ⊎_elim, arith, bytes_eq}
+use Rattle.std.proofs.Common.{◌≡◌, ℕ, zero, suc, ◌+◌, Bool, true, false, cond, nat_eq, ◌&&◌, List, [], ◌∷◌, ◌++◌, length, position, Option, Some, None, Vec, refl, sym, ap, subst, ◌∙◌}
 use Rattle.std.specs.declared.alloc.Global.{Global}
 use Rattle.std.specs.Map.{keys_of, values_of, lookup}
 use Rattle.std.specs.List.{position_from}
@@ -30,16 +30,16 @@ place_of_row : (new : PatternRow) (entries : List Entry) (j : ℕ) → AreKeyed 
     → position_from (λ (k : Vec ℕ Global). pointwise nat_eq (key_of new) k.items) j (keys_of entries) ≡ position_from (same_row new) j (values_of entries)
 place_of_row new [] j keyed = refl
 place_of_row new (e ∷ entries) j keyed =
-  let same : pointwise nat_eq (key_of new) e.0.items ≡ same_row new e.1 = ap (pointwise nat_eq (key_of new)) (keyed 0 e refl) ∙ same_key new e.1 in
-  ap (λ b. cond b (Some j) (position_from (λ (k : Vec ℕ Global). pointwise nat_eq (key_of new) k.items) (j + 1) (keys_of entries))) same
-  ∙ ap (cond (same_row new e.1) (Some j)) (place_of_row new entries (j + 1) (λ n. keyed (suc n)))
+    let same : pointwise nat_eq (key_of new) e.0.items ≡ same_row new e.1 = ap (pointwise nat_eq (key_of new)) (keyed 0 e refl) ∙ same_key new e.1 in
+    ap (λ b. cond b (Some j) (position_from (λ (k : Vec ℕ Global). pointwise nat_eq (key_of new) k.items) (j + 1) (keys_of entries))) same
+    ∙ ap (cond (same_row new e.1) (Some j)) (place_of_row new entries (j + 1) (λ n. keyed (suc n)))
 
 module _ (new : PatternRow) (entries : List Entry) (rows : List PatternRow) (key : List ℕ) (keyed : AreKeyed entries) (are : values_of entries ≡ rows) (is_key : key ≡ key_of new) where
   place : (o : Option ℕ) → o ≡ position (λ (k : Vec ℕ Global). pointwise nat_eq key k.items) (keys_of entries) → position_from (same_row new) 0 rows ≡ o
   place o at =
-    sym (ap (position_from (same_row new) 0) are) ∙ sym (place_of_row new entries 0 keyed)
-    ∙ sym (ap (λ (items : List ℕ). position_from (λ (k : Vec ℕ Global). pointwise nat_eq items k.items) 0 (keys_of entries)) is_key)
-    ∙ sym (position_from-zero (λ (k : Vec ℕ Global). pointwise nat_eq key k.items) (keys_of entries)) ∙ sym at
+      sym (ap (position_from (same_row new) 0) are) ∙ sym (place_of_row new entries 0 keyed)
+      ∙ sym (ap (λ (items : List ℕ). position_from (λ (k : Vec ℕ Global). pointwise nat_eq items k.items) 0 (keys_of entries)) is_key)
+      ∙ sym (position_from-zero (λ (k : Vec ℕ Global). pointwise nat_eq key k.items) (keys_of entries)) ∙ sym at
 
   -- a row that stands is not put again
   pub put_old : (n : ℕ) → Some n ≡ position (λ (k : Vec ℕ Global). pointwise nat_eq key k.items) (keys_of entries) → row new rows ≡ Some (n, rows)
@@ -48,7 +48,7 @@ module _ (new : PatternRow) (entries : List Entry) (rows : List PatternRow) (key
   -- a new row is put last
   pub put_new : (n : ℕ) → None ≡ position (λ (k : Vec ℕ Global). pointwise nat_eq key k.items) (keys_of entries) → n ≡ length entries → row new rows ≡ Some (n, rows ++ new ∷ [])
   put_new n at last = ap (λ o. Some (row_or_new new rows o)) (place None at)
-    ∙ ap (λ (k : ℕ). Some (k, rows ++ new ∷ [])) (sym (ap length are) ∙ length-values_of entries ∙ sym last)
+      ∙ ap (λ (k : ℕ). Some (k, rows ++ new ∷ [])) (sym (ap length are) ∙ length-values_of entries ∙ sym last)
 
   pub key_absent : None ≡ position (λ (k : Vec ℕ Global). pointwise nat_eq key k.items) (keys_of entries) → lookup (λ (k : Vec ℕ Global). pointwise nat_eq key k.items) entries ≡ None
   key_absent at = lookup_none (λ (k : Vec ℕ Global). pointwise nat_eq key k.items) entries 0 (sym (position_from-zero (λ (k : Vec ℕ Global). pointwise nat_eq key k.items) (keys_of entries)) ∙ sym at)

@@ -1,18 +1,17 @@
 -- What a session answers.
-use Rattle.std.proofs.Common.{◌≡◌, ℕ, List, Option, Some, None, Result, Ok, Err, refl, sym, ap, subst, ◌∙◌}
+use Rattle.std.proofs.Common.{◌≡◌, List, Option, Some, None, Err, refl, sym, ap, subst}
 use Rattle.std.specs.Option.{option_map}
 use Rattle.std.proofs.lemmas.Option.{same_Some}
 use Rattle.smt_text.specs.Word.{Word}
-use Rattle.smt_text.specs.declared.token.Place.{Place}
 use Rattle.smt_syntax.specs.declared.command.Command.{Command}
 use Rattle.smt_syntax.specs.declared.effect.Effect.{Effect}
 use Rattle.smt_syntax.specs.declared.fault.Refusal.{Refusal}
 use Rattle.smt_syntax.specs.declared.fault.Refusal.TheVariants.{NotBuilt, Memory}
 use Rattle.smt_syntax.specs.declared.fault.SyntaxFault.{SyntaxFault}
 use Rattle.smt_syntax.specs.State.{State}
-use Rattle.smt_syntax.specs.Elaborate.{planned, elaborate, command_of, state_after, AreValid, Elaborates, IsNotOfForm, Refuses, RefusesAs}
+use Rattle.smt_syntax.specs.Elaborate.{planned, elaborate, command_of, state_after, AreValid, Elaborates, IsNotOfForm, Refuses}
 use Rattle.smt_syntax.specs.Changes.{Plans}
-use Rattle.smt_syntax.specs.Calls.{FaultOf, place_of}
+use Rattle.smt_syntax.specs.Calls.{FaultOf}
 
 answer : State → Effect → Command × State
 answer state effect = (command_of effect, state_after state effect)
@@ -26,8 +25,8 @@ answered state (Some effect) command later e = (effect, refl, ap (λ (p : Comman
 not_of_form : (state : State) (words : List Word) → Plans state words (Err NotBuilt) → IsNotOfForm state words
 unfolding elaborate answer
 not_of_form state words none command later (is, valid) =
-  let found = answered state (planned state words) command later is in
-  none found.0 found.1 (subst AreValid (sym found.2) valid)
+    let found = answered state (planned state words) command later is in
+    none found.0 found.1 (subst AreValid (sym found.2) valid)
 
 -- the refusal of a plan
 pub refuses : (state : State) (words : List Word) (refusal : Refusal) (fault : SyntaxFault) → Plans state words (Err refusal) → FaultOf words refusal fault → Refuses state words fault

@@ -1,5 +1,5 @@
 -- What a session answers that plans and does an effect.
-use Rattle.std.specs.Prelude.{◌≡◌, ℕ, ◌+◌, ◌≤◌, true, List, length, Result, Ok, Err, Some}
+use Rattle.std.specs.Prelude.{◌≡◌, ◌+◌, ◌≤◌, true, List, length, Result, Ok, Err, Some}
 use Rattle.smt_text.specs.Word.{Word}
 use Rattle.term_table.specs.declared.memory.Memory.{Memory}
 use Rattle.smt_syntax.specs.declared.command.Command.{Command}

@@ -1,5 +1,5 @@
 -- Commands: what each one does.
-use Rattle.std.specs.Prelude.{◌≡◌, ℕ, zero, suc, ◌+◌, Bool, true, false, cond, not, ◌&&◌, ◌||◌, ◌==◌, nat_lt, nat_le, if◌then◌else◌, List, [], ◌∷◌, ◌++◌, map, length, Option, Some, None, is_some, option_map, bytes_eq, codes}
+use Rattle.std.specs.Prelude.{ℕ, ◌+◌, Bool, false, cond, not, ◌&&◌, nat_lt, nat_le, if◌then◌else◌, List, [], ◌∷◌, ◌++◌, map, length, Option, Some, None, is_some, option_map, bytes_eq, codes}
 use Rattle.std.specs.Option.{option_and_then}
 use Rattle.std.specs.List.{list_any}
 use Rattle.smt_text.specs.Word.{Word}
@@ -14,7 +14,7 @@ use Rattle.smt_syntax.specs.declared.shape.Shape.TheVariants.{Equation, Forall}
 use Rattle.smt_syntax.specs.declared.effect.Effect.{Effect}
 use Rattle.smt_syntax.specs.declared.effect.Effect.TheVariants as effect
 use Rattle.smt_syntax.specs.State.{State, Declared}
-use Rattle.smt_syntax.specs.Names.{is_symbol, is_numeral, is_keyword, is_word, is_name, is_new_name, is_new_function, is_zero, is_sort, sort_named, number_of}
+use Rattle.smt_syntax.specs.Names.{is_numeral, is_keyword, is_word, is_name, is_new_name, is_new_function, is_zero, is_sort, sort_named, number_of}
 use Rattle.smt_syntax.specs.Rows.{ground_rows}
 use Rattle.smt_syntax.specs.Terms.{Scope, values, is_individual, row_of}
 
@@ -46,7 +46,7 @@ function_parts trees = None
 -- (declare-sort s 0), the first command of all
 abbrev pub sort_declaration : Bool → Word × Word → Option Effect
 sort_declaration started two =
-  cond (not started && is_new_name two.0 && not (bytes_eq two.0.text (codes "Bool")) && is_zero two.1) (Some (effect.DeclareSort two.0.text)) None
+    cond (not started && is_new_name two.0 && not (bytes_eq two.0.text (codes "Bool")) && is_zero two.1) (Some (effect.DeclareSort two.0.text)) None
 
 abbrev pub declare_sort : Bool → Trees → Option Effect
 declare_sort started parts = option_and_then (sort_declaration started) (two_tokens parts)
@@ -112,7 +112,7 @@ abbrev pub variables_from : Option (List ℕ) → List (List ℕ) → Trees → 
 variables_from sort names End = Some names
 variables_from sort names (Token word after) = None
 variables_from sort names (Group paren inner after) =
-  option_and_then (λ (two : Word × Word). cond (is_variable sort names two) (variables_from sort (names ++ two.0.text ∷ []) after) None) (two_tokens inner)
+    option_and_then (λ (two : Word × Word). cond (is_variable sort names two) (variables_from sort (names ++ two.0.text ∷ []) after) None) (two_tokens inner)
 
 -- the trigger of a list of patterns, the one at this place
 abbrev pub trigger_from : Scope → ℕ → Option (List Value × List PatternRow) → Option Trigger
@@ -126,7 +126,7 @@ is_pattern_key word = is_keyword word.kind && bytes_eq word.text (codes ":patter
 abbrev pub triggers_from : Scope → List Trigger → Trees → Option (List Trigger)
 triggers_from scope triggers End = Some triggers
 triggers_from scope triggers (Token key (Group paren patterns after)) =
-  cond (is_pattern_key key) (option_and_then (λ (trigger : Trigger). triggers_from scope (triggers ++ trigger ∷ []) after) (trigger_from scope (length triggers) (values scope patterns []))) None
+    cond (is_pattern_key key) (option_and_then (λ (trigger : Trigger). triggers_from scope (triggers ++ trigger ∷ []) after) (trigger_from scope (length triggers) (values scope patterns []))) None
 triggers_from scope triggers trees = None
 
 -- one trigger or more
@@ -137,7 +137,7 @@ some_triggers (trigger ∷ triggers) = Some (Forall (trigger ∷ triggers))
 -- (! (= u v) :pattern (p ..) ..) under these variables, of which none is named =
 abbrev pub annotated : Scope → Word × Trees → Option Shape
 annotated scope (bang, Group paren (Token equals sides) attributes) =
-  cond (is_word (codes "!") bang && is_word (codes "=") equals && not (list_any (bytes_eq (codes "=")) scope.variables) && are_sides scope sides)
+    cond (is_word (codes "!") bang && is_word (codes "=") equals && not (list_any (bytes_eq (codes "=")) scope.variables) && are_sides scope sides)
     (option_and_then some_triggers (triggers_from scope [] attributes)) None
 annotated scope (bang, trees) = None
 
@@ -153,8 +153,8 @@ universal sort functions parts = None
 
 abbrev pub shape_of : Option (List ℕ) → List Declared → Word × Trees → Option Shape
 shape_of sort functions formula =
-  if is_word (codes "=") formula.0 then equation functions formula.1 else
-  if is_word (codes "forall") formula.0 then universal sort functions formula.1 else None
+    if is_word (codes "=") formula.0 then equation functions formula.1 else
+    if is_word (codes "forall") formula.0 then universal sort functions formula.1 else None
 
 -- (assert e)
 abbrev pub assert : Option (List ℕ) → List Declared → Trees → Option Effect
@@ -184,10 +184,10 @@ check_sat parts = None
 -- All commands.
 abbrev pub effect_of : State → Word × Trees → Option Effect
 effect_of state command =
-  if is_word (codes "declare-sort") command.0 then declare_sort state.started command.1 else
-  if is_word (codes "declare-fun") command.0 then declare_fun state.sort state.functions command.1 else
-  if is_word (codes "declare-const") command.0 then declare_const state.sort state.functions command.1 else
-  if is_word (codes "assert") command.0 then assert state.sort state.functions command.1 else
-  if is_word (codes "push") command.0 then push (length state.levels) state.limits.levels command.1 else
-  if is_word (codes "pop") command.0 then pop (length state.levels) command.1 else
-  if is_word (codes "check-sat") command.0 then check_sat command.1 else None
+    if is_word (codes "declare-sort") command.0 then declare_sort state.started command.1 else
+    if is_word (codes "declare-fun") command.0 then declare_fun state.sort state.functions command.1 else
+    if is_word (codes "declare-const") command.0 then declare_const state.sort state.functions command.1 else
+    if is_word (codes "assert") command.0 then assert state.sort state.functions command.1 else
+    if is_word (codes "push") command.0 then push (length state.levels) state.limits.levels command.1 else
+    if is_word (codes "pop") command.0 then pop (length state.levels) command.1 else
+    if is_word (codes "check-sat") command.0 then check_sat command.1 else None

@@ -1,5 +1,5 @@
 -- What a command means in a state.
-use Rattle.std.specs.Prelude.{◌≡◌, ℕ, ◌-◌, true, List, [], ◌∷◌, map, length, get_or, Option, Some, None, option_map, All}
+use Rattle.std.specs.Prelude.{◌≡◌, ℕ, ◌-◌, true, List, map, length, get_or, Option, Some, option_map, All}
 use Rattle.std.specs.Option.{option_and_then}
 use Rattle.smt_text.specs.Word.{Word}
 use Rattle.smt_text.specs.Trees.{tree_of}

@@ -1,5 +1,5 @@
 -- What the declared functions keep true of their fields.
-use Rattle.std.specs.Prelude.{ℕ, ◌-◌, ◌<◌, ◌≤◌, ◌^◌, List, map, length, All, Vec}
+use Rattle.std.specs.Prelude.{ℕ, ◌-◌, ◌<◌, ◌^◌, List, map, length, Vec}
 use Rattle.std.specs.declared.alloc.Global.{Global}
 use Rattle.smt_syntax.specs.declared.functions.Signature.{Signature}
 use Rattle.smt_syntax.specs.State.{Declared, AreLawful}

@@ -9,7 +9,7 @@ use Rattle.smt_syntax.specs.declared.named.Named.{Named}
 use Rattle.smt_syntax.specs.declared.value.Value.{Value}
 use Rattle.smt_syntax.specs.declared.frame.Frame.{Frame}
 use Rattle.smt_syntax.specs.State.{Declared}
-use Rattle.smt_syntax.specs.Rows.{Making, made, then_from, ◌>>=◌}
+use Rattle.smt_syntax.specs.Rows.{Making, made, ◌>>=◌}
 use Rattle.smt_syntax.specs.Terms.{Scope, values, applied}
 
 -- a list whose arguments are read: what its head stands for, and the values before it in the list around

@@ -3,12 +3,12 @@ use Rattle.std.specs.Prelude.{ℕ, ◌+◌, ◌-◌, ◌*◌, Bool, true, false,
 use Rattle.std.specs.List.{list_any}
 use Rattle.smt_text.specs.Word.{Word}
 use Rattle.smt_text.specs.declared.token.Kind.{Kind}
-use Rattle.smt_text.specs.declared.token.Kind.TheVariants.{Left, Right, Symbol, Keyword, Numeral, Decimal, Hex, Binary, Text}
+use Rattle.smt_text.specs.declared.token.Kind.TheVariants.{Symbol, Keyword, Numeral}
 use Rattle.smt_syntax.specs.declared.sort.Sort.{Sort}
 use Rattle.smt_syntax.specs.declared.sort.Sort.TheVariants.{Bool as Truth, Individual}
 use Rattle.smt_syntax.specs.declared.named.Named.{Named}
-use Rattle.smt_syntax.specs.declared.named.Named.TheVariants.{Variable, Function, Unknown}
-use Rattle.smt_syntax.specs.State.{State, Declared}
+use Rattle.smt_syntax.specs.declared.named.Named.TheVariants.{Function, Unknown}
+use Rattle.smt_syntax.specs.State.{Declared}
 
 abbrev pub is_symbol : Kind → Bool
 is_symbol Symbol = true
@@ -42,14 +42,14 @@ is_core name = list_any (bytes_eq name) (codes "true" ∷ codes "false" ∷ code
 abbrev pub is_name : Word → Bool
 is_name word = is_symbol word.kind && not (is_reserved word.text)
 
--- @ and . begin no declared name
-abbrev pub is_inward : List ℕ → Bool
-is_inward [] = false
-is_inward (first ∷ name) = first == 64 || first == 46
+-- names that begin with @ or . are left to solvers
+abbrev pub is_solver_name : List ℕ → Bool
+is_solver_name [] = false
+is_solver_name (first ∷ name) = first == 64 || first == 46
 
 -- a name that may be declared
 abbrev pub is_new_name : Word → Bool
-is_new_name word = is_name word && not (is_inward word.text)
+is_new_name word = is_name word && not (is_solver_name word.text)
 
 -- what the name stands for among functions of which the first has this symbol
 abbrev pub function_from : ℕ → List Declared → List ℕ → Named

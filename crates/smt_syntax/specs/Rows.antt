@@ -1,5 +1,5 @@
 -- Rows of terms and patterns, and what takes part in making them.
-use Rattle.std.specs.Prelude.{◌≡◌, ℕ, Bool, true, false, cond, ◌&&◌, nat_eq, bytes_eq, List, [], ◌∷◌, ◌++◌, length, Option, Some, None, option_map}
+use Rattle.std.specs.Prelude.{ℕ, Bool, false, ◌&&◌, nat_eq, bytes_eq, List, [], ◌∷◌, ◌++◌, length, Option, Some, None, option_map}
 use Rattle.std.specs.List.{position_from}
 use Rattle.term_table.specs.Terms.{term_row}
 use Rattle.term_table.specs.declared.term_row.TermRow.{TermRow}

@@ -1,5 +1,5 @@
 -- What a session keeps true of its fields.
-use Rattle.std.specs.Prelude.{ℕ, ◌≤◌, ◌<◌, ◌^◌, length}
+use Rattle.std.specs.Prelude.{◌≤◌, ◌<◌, ◌^◌, length}
 use Rattle.smt_syntax.specs.State.{State}
 use Rattle.smt_syntax.specs.declared.session.Session.TheInside.{Inside}
 

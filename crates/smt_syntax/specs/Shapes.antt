@@ -1,6 +1,6 @@
 -- What is known of each shape.
 use Rattle.std.specs.Prelude.{◌≡◌, ℕ, ◌<◌, ◌≤◌, List, length, slice_get, Some, All}
-use Rattle.term_table.specs.Terms.{term_row, HasRow}
+use Rattle.term_table.specs.Terms.{HasRow}
 use Rattle.term_table.specs.Trigger.{IsValid}
 use Rattle.term_table.specs.declared.term_row.TermRow.{TermRow}
 use Rattle.term_table.specs.declared.trigger.Trigger.{Trigger}

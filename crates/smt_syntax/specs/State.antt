@@ -1,5 +1,5 @@
 -- What a session knows between two commands.
-use Rattle.std.specs.Prelude.{ℕ, zero, suc, ◌≤◌, All, ◌+◌, ◌-◌, Bool, false, true, List, [], ◌∷◌, ◌++◌, length, take, get_or, replicate, slice_get, Option, Some, None, option_map, codes}
+use Rattle.std.specs.Prelude.{ℕ, zero, suc, ◌≤◌, All, ◌-◌, Bool, false, List, [], ◌∷◌, ◌++◌, length, take, get_or, replicate, slice_get, Option, Some, None, option_map, codes}
 use Rattle.em_outside.specs.declared.limits.Limits.{Limits}
 use Rattle.smt_syntax.specs.declared.sort.Sort.{Sort}
 

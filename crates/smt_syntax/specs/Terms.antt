@@ -1,5 +1,5 @@
 -- Terms: the rows that stand for them.
-use Rattle.std.specs.Prelude.{◌≡◌, ℕ, ◌+◌, Bool, true, false, cond, not, ◌&&◌, ◌==◌, List, [], ◌∷◌, ◌++◌, map, length, Option, Some, None, bytes_eq}
+use Rattle.std.specs.Prelude.{ℕ, Bool, true, false, cond, ◌&&◌, ◌==◌, List, [], ◌∷◌, map, length, Option, Some, None, bytes_eq}
 use Rattle.std.specs.List.{list_all, position_from}
 use Rattle.smt_text.specs.Word.{Word}
 use Rattle.smt_text.specs.Trees.{Trees, End, Token, Group}
@@ -9,9 +9,9 @@ use Rattle.smt_syntax.specs.declared.sort.Sort.TheVariants.{Bool as Truth, Indiv
 use Rattle.smt_syntax.specs.declared.value.Value.{Value}
 use Rattle.smt_syntax.specs.declared.named.Named.{Named}
 use Rattle.smt_syntax.specs.declared.named.Named.TheVariants.{Variable, Function, Unknown}
-use Rattle.smt_syntax.specs.State.{State, Declared}
+use Rattle.smt_syntax.specs.State.{Declared}
 use Rattle.smt_syntax.specs.Names.{is_symbol, function_named}
-use Rattle.smt_syntax.specs.Rows.{Making, made, refuse, then_from, ◌>>=◌, row}
+use Rattle.smt_syntax.specs.Rows.{Making, made, refuse, ◌>>=◌, row}
 
 -- where a term stands: the declared functions, and the variables that are bound
 pub record Scope : Type 0 where

@@ -53,7 +53,6 @@ pub(crate) fn read_sort(
 }
 
 /// How many arguments there are, each of the declared sort.
-#[tactic(auto, using(crate::proofs::Reading::count_no_token, crate::proofs::Reading::count_no_sort, crate::proofs::Reading::count_full, crate::proofs::Reading::count_next))]
 fn count_arguments(sort: &Option<Name>, tree: &Tree, i: u32) -> Option<u32>
     ensures { result ≡ count_from sort.now 0 (here tree.now i) }
 {

@@ -239,7 +239,16 @@ pub(crate) fn read_values(
     let mut read = Vec::new(alloc);
     let mut i = at;
     loop {
-        match step(alloc, maker, functions, variables, tree, &mut frames, &mut read, i) {
+        match step(
+            alloc,
+            maker,
+            functions,
+            variables,
+            tree,
+            &mut frames,
+            &mut read,
+            i,
+        ) {
             Err(refusal) => return Err(refusal),
             Ok(None) => return Ok(read),
             Ok(Some(next)) => i = next,

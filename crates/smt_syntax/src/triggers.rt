@@ -45,7 +45,6 @@ fn read_trigger(
 }
 
 /// The triggers from a place on, to the end of the list.
-#[tactic(auto, using(crate::proofs::Reading::triggers_no_token, crate::proofs::Reading::triggers_no_list, crate::proofs::Reading::triggers_no_key, crate::proofs::Reading::triggers_refused, crate::proofs::Reading::triggers_next))]
 pub(crate) fn read_triggers(
     alloc: Global,
     functions: &Functions,

@@ -41,7 +41,6 @@ fn binds(sort: &Option<Name>, variables: &[Name], tree: &Tree, i: u32) -> bool
 }
 
 /// The names of the variables from a place on, to the end of the list.
-#[tactic(auto, using(crate::proofs::Reading::variables_no_list, crate::proofs::Reading::variables_no_two, crate::proofs::Reading::variables_unbound, crate::proofs::Reading::variables_next))]
 pub(crate) fn read_variables(
     alloc: Global,
     sort: &Option<Name>,

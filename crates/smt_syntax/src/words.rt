@@ -1,6 +1,6 @@
 //! Tests of tokens.
 ghost use Rattle.std.specs.Prelude.{◌≡◌, ◌<◌, ◌≤◌, ◌^◌, length, MatchOption};
-ghost use Rattle.smt_syntax.specs.Names.{is_reserved, is_core, is_inward, is_name, is_new_name, is_new_function, is_sort, is_sort_name, is_zero, sort_named, number_of, is_unknown};
+ghost use Rattle.smt_syntax.specs.Names.{is_reserved, is_core, is_solver_name, is_name, is_new_name, is_new_function, is_sort, is_sort_name, is_zero, sort_named, number_of, is_unknown};
 ghost use Rattle.smt_syntax.specs.Commands.{is_pattern_key};
 ghost use Rattle.smt_syntax.specs.Cursor.{word_at};
 
@@ -43,9 +43,9 @@ fn core_name(name: &[u8]) -> bool
         || name == b"ite".as_slice()
 }
 
-/// Whether the name begins with a byte that begins no declared name.
-fn inward(name: &[u8]) -> bool
-    ensures { result ≡ is_inward name.now }
+/// Whether the name is of the kind that is left to solvers: no declared name is.
+fn solver_name(name: &[u8]) -> bool
+    ensures { result ≡ is_solver_name name.now }
 {
     match name {
         [] => false,
@@ -71,7 +71,7 @@ pub(crate) fn has_new_name(tree: &Tree, i: u32) -> bool
     ensures { result ≡ is_new_name (word_at tree.now i) }
 {
     if has_name(tree, i) {
-        !inward(text_at(tree, i))
+        !solver_name(text_at(tree, i))
     } else {
         false
     }

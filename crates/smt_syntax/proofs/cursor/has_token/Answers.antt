@@ -17,7 +17,7 @@ returns-then-closes_list c = ap (λ ts. is_token (outermost ts)) (ahead_right c.
 
 pub returns : goal.returns
 returns c =
-  let is = ahead_token c.args.tree.now c.args.i (omega arith)
+    let is = ahead_token c.args.tree.now c.args.i (omega arith)
     (ap is_left (sym c.kind_at-kind.ensures) ∙ sym c.opens_list.ensures ∙ c.if-opens_list.false)
     (ap is_right (sym c.kind_at-kind.ensures) ∙ sym c.closes_list.ensures ∙ c.if-closes_list.false) in
-  (record { within = omega arith; fits = omega arith }, ap outermost is, ap outer is)
+    (record { within = omega arith; fits = omega arith }, ap outermost is, ap outer is)

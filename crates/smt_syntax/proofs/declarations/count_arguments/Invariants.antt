@@ -1,4 +1,4 @@
-use Rattle.std.proofs.Common.{◌≡◌, ◌≤◌, ◌-◌, length}
+use Rattle.std.proofs.Common.{◌≡◌, ◌-◌, length}
 use Rattle.smt_syntax.specs.Commands.{count_from}
 use Rattle.smt_syntax.specs.Cursor.{here}
 use Rattle.smt_syntax.proofs.declarations.count_arguments.Given as goal

@@ -1,4 +1,4 @@
-use Rattle.std.proofs.Common.{◌≡◌, ◌≤◌, ◌-◌, [], length}
+use Rattle.std.proofs.Common.{◌≡◌, ◌-◌, [], length}
 use Rattle.smt_syntax.specs.Commands.{triggers_from}
 use Rattle.smt_syntax.specs.Cursor.{here}
 use Rattle.smt_syntax.specs.Machine.{scope_of}

@@ -7,8 +7,8 @@ use Rattle.smt_syntax.proofs.validity.are_valid.Goals as goal
 
 pub loop-i-preserved : goal.loop-i-preserved
 loop-i-preserved c =
-  let trigger = c.get.result.now in
-  All-more IsValid c.args.triggers.now c.loop-i.i trigger (slice_get_within c.args.triggers.now c.loop-i.i trigger c.get.ensures) c.loop-i.invariant
+    let trigger = c.get.result.now in
+    All-more IsValid c.args.triggers.now c.loop-i.i trigger (slice_get_within c.args.triggers.now c.loop-i.i trigger c.get.ensures) c.loop-i.invariant
     (subst IsValid (sym (get_or_from_slice_get c.args.triggers.now c.loop-i.i trigger trigger c.get.ensures)) (c.valid.ensures.0 c.if-not-valid.false))
 
 pub returns : goal.returns

@@ -1,4 +1,4 @@
-use Rattle.std.proofs.Common.{◌≡◌, ◌≤◌, ◌<◌, ◌*◌, ◌^◌, drop}
+use Rattle.std.proofs.Common.{◌≡◌, ◌<◌, ◌^◌, drop}
 use Rattle.smt_syntax.specs.Names.{number_from, number_of}
 use Rattle.smt_syntax.proofs.words.small_number.Given as goal
 

@@ -11,8 +11,8 @@ ground_more rows row (Some others) = ap Some (append_assoc rows (row ∷ []) oth
 
 pub loop-row-preserved : goal.loop-row-preserved
 loop-row-preserved c =
-  ap (λ (rows : List TermRow). option_map (λ (others : List TermRow). rows ++ others) (ground_rows c.next.new.self)) c.in_ok-push-in-App.ensures.ok
-  ∙ ground_more c.loop-row.rows _ (ground_rows c.next.new.self)
-  ∙ ap (λ (rows : List PatternRow). option_map (λ (others : List TermRow). c.loop-row.rows ++ others) (ground_rows rows))
-      (ap (λ (row : PatternRow). row ∷ c.next.new.self) (sym c.in-App.is) ∙ sym c.in-Some.ensures.steps)
-  ∙ c.loop-row.invariant
+    ap (λ (rows : List TermRow). option_map (λ (others : List TermRow). rows ++ others) (ground_rows c.next.new.self)) c.in_ok-push-in-App.ensures.ok
+    ∙ ground_more c.loop-row.rows _ (ground_rows c.next.new.self)
+    ∙ ap (λ (rows : List PatternRow). option_map (λ (others : List TermRow). c.loop-row.rows ++ others) (ground_rows rows))
+    (ap (λ (row : PatternRow). row ∷ c.next.new.self) (sym c.in-App.is) ∙ sym c.in-Some.ensures.steps)
+    ∙ c.loop-row.invariant
