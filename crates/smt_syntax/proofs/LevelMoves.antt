@@ -21,5 +21,5 @@ moved state effect.CheckSat allowed = refl
 -- so does the command that an effect is
 pub levels_moved : (old new : State) (what : Effect) (command : Command) → IsAllowed old what → command ≡ command_of what → new ≡ state_after old what → MovesLevels (length old.levels) command (length new.levels)
 levels_moved old new what command allowed is later =
-  subst (λ (c : Command). MovesLevels (length old.levels) c (length new.levels)) (sym is)
+    subst (λ (c : Command). MovesLevels (length old.levels) c (length new.levels)) (sym is)
     (subst (λ (s : State). MovesLevels (length old.levels) (command_of what) (length s.levels)) (sym later) (moved old what allowed))

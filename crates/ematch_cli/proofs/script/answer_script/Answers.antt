@@ -1,6 +1,12 @@
-use Rattle.std.proofs.Common.{◌≡◌, List, ℕ, arith, sym, ◌∙◌, ap, subst}
+use Rattle.std.proofs.Common.{rules, ◌≡◌, ◌≤◌, length, List, ℕ, arith, sym, ◌∙◌, ap, subst}
+use Rattle.term_table.specs.Standing.{levels_of}
+use Rattle.term_table.specs.State.{GraphState, first_state}
+use Rattle.smt_text.specs.Reading.{Reading}
+use Rattle.smt_syntax.specs.State.{State, start as start_state}
 use Rattle.em_outside.specs.Bytes.{Appended}
-use Rattle.ematch_cli.specs.Run.{run_state}
+use Rattle.ematch_cli.specs.Run.{RunState, run_state}
+use Rattle.ematch_cli.specs.Output.{opening}
+use Rattle.ematch_cli.proofs.Reached.{Reached, ahead, reached_start}
 use Rattle.ematch_cli.specs.Headline.{WroteFront}
 use Rattle.ematch_cli.proofs.Exits.{done, read_fault, reader_memory, reply_memory, write_fault, next, refused_command, refused_bytes}
 use Rattle.ematch_cli.proofs.script.answer_script.Goals as goal
@@ -68,3 +74,19 @@ returns-in-NotBuilt-clause-answers g c =
     (run_state c.loop-tree.session c.loop-tree.graph) c.loop-tree.reader c.next_tree.new.self c.loop-tree.invariant.reached c.in-NotBuilt.place c.refuse-in-NotBuilt.result
     (read.reads c.loop-tree.invariant.no_fault)
     (record { is = c.refuse-in-NotBuilt.ensures.status; whole = c.refuse-in-NotBuilt.ensures.error; front = λ e. (c.refuse-in-NotBuilt.ensures.fault e).1 })
+
+pub loop-tree-init : goal.loop-tree-init
+loop-tree-init g c =
+    let limits = c.args.limits.now in
+    let left = g.I.Source.left c.args.input.now in
+    let written = g.O.Sink.written c.args.out.now in
+    record {
+      reached = subst (λ (now : RunState). Reached limits left left written written now (ahead c.in-Ok.reader))
+          (sym (ap (λ (s : State). run_state s c.in-Ok-new-2.graph) c.in-Ok-new.ensures.ok ∙ ap (λ (s : GraphState). run_state (start_state limits) s) c.in-Ok-new-2.ensures))
+          (subst (λ (reader : Reading). Reached limits left left written written (opening limits) (ahead reader)) (sym c.in-Ok.ensures) (reached_start limits left written));
+      no_fault = ap (λ (r : Reading). r.fault) c.in-Ok.ensures;
+      limits = ap (λ (r : Reading). r.limits) c.in-Ok.ensures;
+      levels = ap (λ (s : GraphState). levels_of s.standing) c.in-Ok-new-2.ensures ∙ sym (ap (λ (s : State). length s.levels) c.in-Ok-new.ensures.ok);
+      input_later = omega (arith);
+      out_later = omega (arith);
+    }
