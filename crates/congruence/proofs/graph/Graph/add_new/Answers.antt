@@ -1,0 +1,31 @@
+use Rattle.std.proofs.Common.{◌∙◌, ap, sym, refl, arith, length, ◌++◌, [], append-nil, subst}
+use Rattle.term_table.specs.declared.op.Op.TheVariants.{Add as AddOp}
+use Rattle.term_table.specs.Same.{Same}
+use Rattle.term_table.specs.Standing.{terms_of, levels_of}
+use Rattle.term_table.specs.State.{GraphState}
+use Rattle.congruence.specs.History.{now}
+use Rattle.term_table.specs.Terms.{term_row}
+use Rattle.congruence.specs.Operations.{WasSame}
+use Rattle.congruence.specs.Unions.{AreUnions}
+use Rattle.congruence.proofs.StartLemmas.{AreStarts-after, levels_after}
+use Rattle.congruence.proofs.MeaningLemmas.{AreUnions-added}
+use Rattle.congruence.proofs.graph.Graph.add_new.Goals as goal
+
+pub invariant_of-self-2 : goal.invariant_of-self-2
+invariant_of-self-2 c =
+    let old = c.self.inside.classes in
+    let new = c.add.new.self in
+    let op = AddOp c.args.symbol c.args.args.now in
+    let follows = c.in_ok-added.ensures.ok in
+    let levels = levels_after old new c.self.inside.done op c.self.inside.levels 0 follows c.self.invariant.levels refl in
+    let room = c.has_number.ensures c.if-not-has_number.false in
+    record {
+      starts = AreStarts-after old new c.self.inside.starts.items c.reserve.new.self.items c.push_reserved.new.self.items c.self.inside.done op c.mark-start.result c.self.invariant.starts c.add.ensures.history c.mark-start.ensures follows c.in_ok-added.ensures.good c.reserve.ensures.items c.push_reserved.ensures.items;
+      levels = omega (arith, levels);
+      room = omega (arith, ap (λ (g : GraphState). g.done) c.self.view_is, ap (λ (g : GraphState). levels_of g.standing) c.self.view_is, c.self.invariant.levels, room);
+    }
+
+pub returns-clause-unions : goal.returns-clause-unions
+returns-clause-unions c =
+    let P : GraphState → Type 0 = λ g. AreUnions (WasSame g.standing (length (terms_of (now c.add.new.self).log))) (Same (now c.add.new.self).log) c.in_ok-added.added.unions in
+    subst P c.self.view_is (AreUnions-added (now c.self.inside.classes) c.self.invariant.starts.good (now c.add.new.self) (term_row c.args.symbol c.args.args.now) c.in_ok-added.added.unions c.in_ok-added.ensures.good c.in_ok-added.ensures.ok.rows c.in_ok-added.ensures.unions)

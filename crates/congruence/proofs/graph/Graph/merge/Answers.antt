@@ -1,0 +1,30 @@
+use Rattle.std.proofs.Common.{◌∙◌, ap, sym, refl, arith, length, ◌++◌, [], append-nil, subst}
+use Rattle.term_table.specs.declared.op.Op.TheVariants.{Merge as MergeOp}
+use Rattle.term_table.specs.Same.{Same}
+use Rattle.term_table.specs.Standing.{terms_of, levels_of}
+use Rattle.term_table.specs.State.{GraphState}
+use Rattle.congruence.specs.History.{now}
+use Rattle.congruence.specs.Operations.{WasSame}
+use Rattle.congruence.specs.Unions.{AreUnions}
+use Rattle.congruence.proofs.StartLemmas.{AreStarts-after, levels_after}
+use Rattle.congruence.proofs.MeaningLemmas.{AreUnions-same}
+use Rattle.congruence.proofs.graph.Graph.merge.Goals as goal
+
+pub invariant_of-self-2 : goal.invariant_of-self-2
+invariant_of-self-2 c =
+    let old = c.self.inside.classes in
+    let new = c.merge.new.self in
+    let op = MergeOp c.args.left c.args.right in
+    let follows = c.in_ok-unions.ensures.ok in
+    let levels = levels_after old new c.self.inside.done op c.self.inside.levels 0 follows c.self.invariant.levels refl in
+    let room = c.has_number.ensures c.if-not-has_number.false in
+    record {
+      starts = AreStarts-after old new c.self.inside.starts.items c.reserve.new.self.items c.push_reserved.new.self.items c.self.inside.done op c.mark-start.result c.self.invariant.starts c.merge.ensures.history c.mark-start.ensures follows c.in_ok-unions.ensures.good c.reserve.ensures.items c.push_reserved.ensures.items;
+      levels = omega (arith, levels);
+      room = omega (arith, ap (λ (g : GraphState). g.done) c.self.view_is, ap (λ (g : GraphState). levels_of g.standing) c.self.view_is, c.self.invariant.levels, room);
+    }
+
+pub returns-clause-unions : goal.returns-clause-unions
+returns-clause-unions c =
+    let P : GraphState → Type 0 = λ g. AreUnions (WasSame g.standing (length (terms_of g.standing))) (Same (now c.merge.new.self).log) c.in_ok-unions.unions in
+    subst P c.self.view_is (AreUnions-same (now c.self.inside.classes) (now c.merge.new.self) c.in_ok-unions.unions c.self.invariant.starts.good c.in_ok-unions.ensures.good (c.in_ok-unions.ensures.ok.rows ∙ append-nil (now c.self.inside.classes).rows) c.in_ok-unions.ensures.unions)
