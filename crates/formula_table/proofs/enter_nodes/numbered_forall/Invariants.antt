@@ -1,0 +1,7 @@
+use Rattle.std.proofs.Common.{◌≡◌, take}
+use Rattle.formula_table.specs.Entry.{numbered}
+use Rattle.formula_table.proofs.enter_nodes.numbered_forall.Given as goal
+
+-- the triggers so far have their numbers
+abbrev pub invariant-loop-place : goal.invariant-loop-place
+invariant-loop-place l = l.triggers ≡ numbered l.number 0 (take l.place l.new.triggers)

@@ -1,0 +1,47 @@
+use Rattle.std.proofs.Common.{◌<◌, ◌≤◌, ℕ, List, [], length, Some, All, Contains, ap, subst, sym, ◌∙◌, true≢false}
+use Rattle.std.specs.Prelude.{slice_index}
+use Rattle.std.proofs.lemmas.List.Elements.{All-weaker, All-contains, All-contains_itself}
+use Rattle.term_table.specs.TermEntry.{AddGrows}
+use Rattle.formula_table.specs.declared.shape_row.ShapeRow.TheVariants.{App}
+use Rattle.formula_table.specs.Reach.ReachesRow.{argument}
+use Rattle.formula_table.specs.Entry.{entered_row, RowGrows}
+use Rattle.formula_table.specs.Entry.EntersRow.{unreached}
+use Rattle.formula_table.proofs.EntryLemmas.{ok_map, row_added}
+use Rattle.formula_table.proofs.enter_rows.enter_row.Goals as goal
+
+pub returns-then-not-reached-clause-ok : goal.returns-then-not-reached-clause-ok
+returns-then-not-reached-clause-ok g c = ([], g.met.E.TermEntry.grown_none c.args.terms.now, unreached (λ reach. true≢false (sym (c.requires.reached.1 reach) ∙ c.if-not-reached.true)))
+
+pub add_term-requires-clause-named : goal.add_term-requires-clause-named
+add_term-requires-clause-named g c =
+    let at = c.row_at.ensures ∙ ap Some c.in-App.is in
+    subst (λ (args : List ℕ). All (λ arg. arg < length c.args.numbers.now) args) (sym c.as_slice.ensures) (c.requires.formula.lawful.rows_fit (length c.args.numbers.now) (App c.in-App.symbol c.in-App.args) at).args
+
+pub add_term-requires-clause-stand : goal.add_term-requires-clause-stand
+add_term-requires-clause-stand g c =
+    let at = c.row_at.ensures ∙ ap Some c.in-App.is in
+    let rows = g.E.TermEntry.rows c.args.terms.now in
+    let fits = c.requires.formula.lawful.rows_fit (length c.args.numbers.now) (App c.in-App.symbol c.in-App.args) at in
+    subst (λ (args : List ℕ). All (λ arg. slice_index c.args.numbers.now arg < length rows) args) (sym c.as_slice.ensures)
+    (All-weaker (Contains c.in-App.args) (λ arg. slice_index c.args.numbers.now arg < length rows)
+    (λ arg is. c.requires.stand arg (All-contains (λ a. a < length c.args.numbers.now) c.in-App.args arg fits.args is) (argument (c.requires.reached.0 c.if-not-reached.false) at is))
+    c.in-App.args (All-contains_itself c.in-App.args))
+
+pub add_term-requires-clause-few : goal.add_term-requires-clause-few
+add_term-requires-clause-few g c =
+    let at = c.row_at.ensures ∙ ap Some c.in-App.is in
+    subst (λ (args : List ℕ). length args ≤ 255) (sym c.as_slice.ensures) (c.requires.formula.lawful.rows_fit (length c.args.numbers.now) (App c.in-App.symbol c.in-App.args) at).few
+
+pub returns-in-App-clause-ok : goal.returns-in-App-clause-ok
+returns-in-App-clause-ok g c =
+    let at = c.row_at.ensures ∙ ap Some c.in-App.is in
+    let old = g.E.TermEntry.rows c.args.terms.now in
+    let new = g.E.TermEntry.rows c.add_term.new.terms in
+    let limit = g.E.TermEntry.limit c.args.terms.now in
+    let grown = g.E.TermEntry.grown c.args.terms.now c.add_term.new.terms in
+    let numbers = c.args.numbers.now in
+    ok_map (AddGrows old limit new grown (entered_row numbers c.in-App.symbol c.as_slice.result.now)) (RowGrows grown c.args.shape.now old limit numbers) c.add_term.result
+    (λ term adds. row_added c.args.shape.now old new limit grown numbers c.in-App.symbol c.in-App.args (c.requires.reached.0 c.if-not-reached.false) at
+    (λ more grew. (g.met.E.TermEntry.grown_rows c.args.terms.now c.add_term.new.terms more grew).0)
+    term (subst (λ (args : List ℕ). AddGrows old limit new grown (entered_row numbers c.in-App.symbol args) term) c.as_slice.ensures adds))
+    c.add_term.ensures.ok

@@ -1,0 +1,12 @@
+pub mod Items
+pub mod ShapeRow
+pub mod ShapeNode
+pub mod Reach
+pub mod Draft
+pub mod DraftInside
+pub mod Node
+pub mod Formulas
+pub mod TableInside
+pub mod Marks
+pub mod EnterFault
+pub mod Entry

@@ -1,0 +1,114 @@
+//! What of a shape is reached from a node.
+ghost use Rattle.std.specs.Prelude.{◌≡◌, ◌<◌, length, All, IfOk};
+ghost use Rattle.formula_table.specs.ShapeRow.{args_of};
+ghost use Rattle.formula_table.specs.ShapeNode.{rows_of, parts_of};
+ghost use Rattle.formula_table.specs.Reach.{ReachesNode, ReachesRow};
+ghost use Rattle.formula_table.specs.Marks.{Marks, AreMarks, IsNamed};
+ghost use Rattle.formula_table.specs.Draft.{IsFormula};
+
+use crate::shape::Shape;
+use crate::shape_node::ShapeNode;
+use crate::shape_row::ShapeRow;
+use std::alloc::Global;
+use term_table::Memory;
+
+/// Marks these numbers.
+fn mark(marks: &mut [bool], places: &[u32])
+    requires { All (λ place. place < length marks.old) places.now }
+    ensures { Marks places.now marks.old marks.new }
+{
+    for place in places {
+        marks[*place as usize] = true;
+    }
+}
+
+/// Marks the parts of a node.
+fn mark_parts(marks: &mut [bool], node: &ShapeNode)
+    requires { All (λ part. part < length marks.old) (parts_of node.now) }
+    ensures { Marks (parts_of node.now) marks.old marks.new }
+{
+    match node {
+        ShapeNode::And { parts } => mark(marks, parts.as_slice()),
+        ShapeNode::Or { parts } => mark(marks, parts.as_slice()),
+        _ => mark(marks, &[]),
+    }
+}
+
+/// Marks the rows that a node names.
+fn mark_rows(marks: &mut [bool], node: &ShapeNode)
+    requires { All (λ row. row < length marks.old) (rows_of node.now) }
+    ensures { Marks (rows_of node.now) marks.old marks.new }
+{
+    match node {
+        ShapeNode::Equal { left, right, .. } => mark(marks, &[*left, *right]),
+        ShapeNode::Atom { row, .. } => mark(marks, &[*row]),
+        _ => mark(marks, &[]),
+    }
+}
+
+/// Marks the arguments of a row.
+fn mark_args(marks: &mut [bool], row: &ShapeRow)
+    requires { All (λ arg. arg < length marks.old) (args_of row.now) }
+    ensures { Marks (args_of row.now) marks.old marks.new }
+{
+    match row {
+        ShapeRow::App { args, .. } => mark(marks, args.as_slice()),
+        ShapeRow::Var { .. } => mark(marks, &[]),
+    }
+}
+
+/// The nodes that are reached from the start, without going into the bodies of foralls.
+pub(crate) fn reached_nodes(alloc: Global, shape: &Shape, start: u32) -> Result<Vec<bool>, Memory>
+    requires formula { IsFormula shape.now }
+    requires stands { start < length shape.now.nodes }
+    ensures { IfOk result (λ marks. AreMarks (length shape.now.nodes) (ReachesNode shape.now.nodes start) marks.items) }
+{
+    let count = shape.nodes();
+    let mut marks = vec![in alloc; false; count as usize]?;
+    marks[start as usize] = true;
+    let mut n = count;
+    while n > 0 {
+        n -= 1;
+        if marks[n as usize] {
+            mark_parts(&mut marks, shape.node_at(n));
+        }
+    }
+    Ok(marks)
+}
+
+/// The rows that these nodes name.
+fn named_rows(alloc: Global, shape: &Shape, start: u32, nodes: &[bool]) -> Result<Vec<bool>, Memory>
+    requires formula { IsFormula shape.now }
+    requires nodes { AreMarks (length shape.now.nodes) (ReachesNode shape.now.nodes start) nodes.now }
+    ensures { IfOk result (λ marks. AreMarks (length shape.now.rows) (IsNamed shape.now.nodes start) marks.items) }
+{
+    let mut marks = vec![in alloc; false; shape.rows() as usize]?;
+    for n in 0..shape.nodes() {
+        if nodes[n as usize] {
+            mark_rows(&mut marks, shape.node_at(n));
+        }
+    }
+    Ok(marks)
+}
+
+/// The rows that are reached from these nodes.
+pub(crate) fn reached_rows(
+    alloc: Global,
+    shape: &Shape,
+    start: u32,
+    nodes: &[bool],
+) -> Result<Vec<bool>, Memory>
+    requires formula { IsFormula shape.now }
+    requires nodes { AreMarks (length shape.now.nodes) (ReachesNode shape.now.nodes start) nodes.now }
+    ensures { IfOk result (λ marks. AreMarks (length shape.now.rows) (ReachesRow shape.now.rows shape.now.nodes start) marks.items) }
+{
+    let mut marks = named_rows(alloc, shape, start, nodes)?;
+    let mut n = shape.rows();
+    while n > 0 {
+        n -= 1;
+        if marks[n as usize] {
+            mark_args(&mut marks, shape.row_at(n));
+        }
+    }
+    Ok(marks)
+}
