@@ -9,11 +9,11 @@ use Rattle.term_table.specs.declared.term_row.TermRow.{TermRow}
 use Rattle.term_table.specs.Terms.{HasRow}
 use Rattle.term_table.specs.TermEntry.{AddGrows}
 use Rattle.term_table.specs.TermEntry.AddGrows.{new_row, old_row}
-use Rattle.formula_table.specs.declared.shape_row.ShapeRow.TheVariants.{App}
+use Rattle.formula_shape.specs.declared.shape_row.ShapeRow.TheVariants.{App}
 use Rattle.formula_table.specs.declared.enter_fault.EnterFault.{EnterFault}
 use Rattle.formula_table.specs.declared.enter_fault.EnterFault.TheVariants.{TermsFull, NodesFull, Memory}
-use Rattle.formula_table.specs.Reach.{ReachesRow}
-use Rattle.formula_table.specs.Draft.{Formula}
+use Rattle.formula_shape.specs.Reach.{ReachesRow}
+use Rattle.formula_shape.specs.Draft.{Formula}
 use Rattle.formula_table.specs.Entry.{EntersRow, EntersRows, entered_row, IsNextTermFull, NumbersStand, RowGrows, StopsRow, StopsRows, LacksMemory}
 use Rattle.formula_table.specs.Entry.EntersRow.{unreached, new_term, old_term}
 use Rattle.formula_table.specs.Entry.EntersRows.{none, then_row}

@@ -4,15 +4,15 @@ use Rattle.std.proofs.lemmas.Bool.{cases_lt}
 use Rattle.std.proofs.lemmas.List.{length-replicate}
 use Rattle.std.proofs.lemmas.Option.{none-some, same_Some, slice_get_within, slice_get-get_or}
 use Rattle.std.proofs.lemmas.List.Elements.{All-contains, Contains-push_cases, Contains-append_left, Contains-push}
-use Rattle.formula_table.specs.declared.shape_row.ShapeRow.{ShapeRow}
-use Rattle.formula_table.specs.declared.shape_node.ShapeNode.{ShapeNode}
-use Rattle.formula_table.specs.declared.shape_forall.ShapeForall.{ShapeForall}
-use Rattle.formula_table.specs.ShapeRow.{args_of}
-use Rattle.formula_table.specs.ShapeNode.{rows_of, parts_of}
-use Rattle.formula_table.specs.Reach.{ReachesNode, ReachesRow}
-use Rattle.formula_table.specs.Reach.ReachesNode.{itself, part_of_it}
-use Rattle.formula_table.specs.Reach.ReachesRow.{named, argument}
-use Rattle.formula_table.specs.Draft.{AreLawful}
+use Rattle.formula_shape.specs.declared.shape_row.ShapeRow.{ShapeRow}
+use Rattle.formula_shape.specs.declared.shape_node.ShapeNode.{ShapeNode}
+use Rattle.formula_shape.specs.declared.shape_forall.ShapeForall.{ShapeForall}
+use Rattle.formula_shape.specs.ShapeRow.{args_of}
+use Rattle.formula_shape.specs.ShapeNode.{rows_of, parts_of}
+use Rattle.formula_shape.specs.Reach.{ReachesNode, ReachesRow}
+use Rattle.formula_shape.specs.Reach.ReachesNode.{itself, part_of_it}
+use Rattle.formula_shape.specs.Reach.ReachesRow.{named, argument}
+use Rattle.formula_shape.specs.Draft.{AreLawful}
 use Rattle.formula_table.specs.Marks.{IsMarked, AreMarks, Marks, IsNamed}
 
 -- a place that was marked is marked

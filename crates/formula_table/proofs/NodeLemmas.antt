@@ -11,22 +11,23 @@ use Rattle.term_table.specs.Trigger.{IsValid, Occurs}
 use Rattle.term_table.specs.Trigger.Occurs.{at_root, below}
 use Rattle.term_table.specs.ListLaws.{All-slice_get, element_at}
 use Rattle.formula_table.specs.declared.node.Node.{Node}
-use Rattle.formula_table.specs.declared.shape_node.ShapeNode.{ShapeNode}
-use Rattle.formula_table.specs.declared.shape_node.ShapeNode.TheVariants.{Equal, Atom, And, Or, Forall}
-use Rattle.formula_table.specs.declared.shape_forall.ShapeForall.{ShapeForall}
+use Rattle.formula_shape.specs.declared.shape_node.ShapeNode.{ShapeNode}
+use Rattle.formula_shape.specs.declared.shape_node.ShapeNode.TheVariants.{Equal, Atom, And, Or, Forall}
+use Rattle.formula_shape.specs.declared.shape_forall.ShapeForall.{ShapeForall}
 use Rattle.formula_table.specs.declared.table_forall.TableForall.{TableForall}
-use Rattle.formula_table.specs.ShapeNode.{parts_of, foralls_of}
-use Rattle.formula_table.specs.Items.{with_item}
+use Rattle.formula_shape.specs.ShapeNode.{parts_of, foralls_of}
+use Rattle.formula_shape.specs.Items.{with_item}
 use Rattle.formula_table.specs.Node.{same_entered}
-use Rattle.formula_table.specs.Reach.{ReachesNode}
-use Rattle.formula_table.specs.Reach.ReachesNode.{part_of_it}
-use Rattle.formula_table.specs.Draft.{Formula, FitsTrigger}
+use Rattle.formula_shape.specs.Reach.{ReachesNode}
+use Rattle.formula_shape.specs.Reach.ReachesNode.{part_of_it}
+use Rattle.formula_shape.specs.Draft.{Formula, FitsTrigger}
 use Rattle.formula_table.specs.Formulas.{Formulas, IsForallOf, IsTriggerOf, FitsTable, GrowsTable, with_foralls, with_entered}
 use Rattle.formula_table.specs.Entry.{entered_node, placed, numbered, table_forall, brought_foralls, EntersNode, EntersNodes, NodeNumbersStand}
 use Rattle.formula_table.specs.Entry.EntersNode.{unreached, of_reached}
 use Rattle.formula_table.specs.Entry.EntersNodes.{none, then_node}
-use Rattle.formula_table.proofs.Keyed.{put_cases}
-use Rattle.formula_table.proofs.Same.{found_at, entered_told}
+use Rattle.formula_shape.specs.ItemLaws.{put_cases}
+use Rattle.formula_shape.specs.SameLaws.{found_at}
+use Rattle.formula_table.proofs.Same.{entered_told}
 use Rattle.formula_table.proofs.EntryLemmas.{index-push, index-last}
 
 -- the triggers with one more

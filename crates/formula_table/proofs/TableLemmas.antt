@@ -6,11 +6,12 @@ use Rattle.term_table.specs.ListLaws.{slice_get-take, push_cases}
 use Rattle.formula_table.specs.declared.node.Node.TheVariants.{Equal, Atom, And, Or, Forall}
 use Rattle.formula_table.specs.declared.node.Node.{Node}
 use Rattle.formula_table.specs.declared.table_forall.TableForall.{TableForall}
-use Rattle.formula_table.specs.Items.{with_item}
+use Rattle.formula_shape.specs.Items.{with_item}
 use Rattle.formula_table.specs.Node.{children_of, same_entered}
 use Rattle.formula_table.specs.Formulas.{Formulas, IsFormulaTable, IsForallOf, NamesFirst, FitsTable, first_formulas, with_foralls}
-use Rattle.formula_table.proofs.Keyed.{put_cases}
-use Rattle.formula_table.proofs.Same.{once-push, entered_told}
+use Rattle.formula_shape.specs.ItemLaws.{put_cases}
+use Rattle.formula_shape.specs.SameLaws.{once-push}
+use Rattle.formula_table.proofs.Same.{entered_told}
 use Rattle.std.proofs.lemmas.List.Elements.{All-nil}
 
 -- the first formulas of a table are a table

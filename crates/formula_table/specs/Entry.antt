@@ -5,15 +5,15 @@ use Rattle.term_table.specs.declared.trigger.Trigger.{Trigger}
 use Rattle.term_table.specs.Terms.{term_row, HasRow, IsAbsent}
 use Rattle.formula_table.specs.declared.node.Node.{Node}
 use Rattle.formula_table.specs.declared.node.Node.TheVariants as entered
-use Rattle.formula_table.specs.declared.shape_row.ShapeRow.TheVariants.{App}
-use Rattle.formula_table.specs.declared.shape_node.ShapeNode.{ShapeNode}
-use Rattle.formula_table.specs.declared.shape_node.ShapeNode.TheVariants.{Equal, Atom, And, Or, Forall}
-use Rattle.formula_table.specs.declared.shape_forall.ShapeForall.{ShapeForall}
+use Rattle.formula_shape.specs.declared.shape_row.ShapeRow.TheVariants.{App}
+use Rattle.formula_shape.specs.declared.shape_node.ShapeNode.{ShapeNode}
+use Rattle.formula_shape.specs.declared.shape_node.ShapeNode.TheVariants.{Equal, Atom, And, Or, Forall}
+use Rattle.formula_shape.specs.declared.shape_forall.ShapeForall.{ShapeForall}
 use Rattle.formula_table.specs.declared.table_forall.TableForall.{TableForall}
 use Rattle.formula_table.specs.declared.enter_fault.EnterFault.{EnterFault}
 use Rattle.formula_table.specs.declared.enter_fault.EnterFault.TheVariants.{TermsFull, NodesFull, Memory}
-use Rattle.formula_table.specs.Reach.{ReachesNode, ReachesRow}
-use Rattle.formula_table.specs.Draft.{Formula}
+use Rattle.formula_shape.specs.Reach.{ReachesNode, ReachesRow}
+use Rattle.formula_shape.specs.Draft.{Formula}
 use Rattle.formula_table.specs.Formulas.{Formulas, with_foralls, with_entered}
 
 -- the row over the terms that its arguments became

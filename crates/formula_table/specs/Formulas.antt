@@ -7,7 +7,7 @@ use Rattle.formula_table.specs.declared.node.Node.TheVariants.{Equal, Atom, And,
 use Rattle.formula_table.specs.declared.table_forall.TableForall.{TableForall}
 use Rattle.formula_table.specs.declared.enter_fault.EnterFault.{EnterFault}
 use Rattle.formula_table.specs.declared.enter_fault.EnterFault.TheVariants.{TermsFull, NodesFull, Memory}
-use Rattle.formula_table.specs.Items.{with_item}
+use Rattle.formula_shape.specs.Items.{with_item}
 use Rattle.formula_table.specs.Node.{children_of, same_entered}
 
 -- nodes and foralls by number, and how many nodes there may be

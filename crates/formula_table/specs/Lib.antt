@@ -1,9 +1,3 @@
-pub mod Items
-pub mod ShapeRow
-pub mod ShapeNode
-pub mod Reach
-pub mod Draft
-pub mod DraftInside
 pub mod Node
 pub mod Formulas
 pub mod TableInside

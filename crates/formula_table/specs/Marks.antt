@@ -1,8 +1,8 @@
 -- Marks, one for each number below a length.
 use Rattle.std.specs.Prelude.{◌≡◌, ℕ, ◌⊎◌, Bool, true, List, length, slice_get, Some, Contains}
-use Rattle.formula_table.specs.declared.shape_node.ShapeNode.{ShapeNode}
-use Rattle.formula_table.specs.ShapeNode.{rows_of}
-use Rattle.formula_table.specs.Reach.{ReachesNode}
+use Rattle.formula_shape.specs.declared.shape_node.ShapeNode.{ShapeNode}
+use Rattle.formula_shape.specs.ShapeNode.{rows_of}
+use Rattle.formula_shape.specs.Reach.{ReachesNode}
 
 -- the number is marked
 abbrev pub IsMarked : List Bool → ℕ → Type 0

@@ -1,9 +1,9 @@
 //! Enters the nodes of a shape.
 ghost use Rattle.std.specs.Prelude.{◌≡◌, ℕ, ◌<◌, ◌≤◌, ◌↔◌, length, All, IsTrue, IfOk, IfErr, OnOk, OnErr};
-ghost use Rattle.formula_table.specs.ShapeNode.{rows_of, parts_of, foralls_of};
-ghost use Rattle.formula_table.specs.Reach.{ReachesNode};
+ghost use Rattle.formula_shape.specs.ShapeNode.{rows_of, parts_of, foralls_of};
+ghost use Rattle.formula_shape.specs.Reach.{ReachesNode};
 ghost use Rattle.formula_table.specs.Marks.{AreMarks};
-ghost use Rattle.formula_table.specs.Draft.{IsFormula};
+ghost use Rattle.formula_shape.specs.Draft.{IsFormula};
 ghost use Rattle.formula_table.specs.Formulas.{GrowsTable, with_foralls};
 ghost use Rattle.formula_table.specs.Entry.{entered_node, brought_foralls, table_forall, EntersNode, NodeNumbersStand, StopsNode, NodesGrow, StopsNodes};
 
@@ -11,9 +11,9 @@ use crate::enter_fault::EnterFault;
 use crate::enter_rows::{push_number, renamed};
 use crate::formula_table::FormulaTable;
 use crate::node::Node;
-use crate::shape::Shape;
-use crate::shape_forall::ShapeForall;
-use crate::shape_node::ShapeNode;
+use formula_shape::Shape;
+use formula_shape::ShapeForall;
+use formula_shape::ShapeNode;
 use crate::table_forall::TableForall;
 use std::alloc::Global;
 use term_table::{Memory, Triggers};

@@ -2,14 +2,14 @@
 ghost use Rattle.std.specs.Prelude.{◌≡◌, ◌<◌, ◌≤◌, ◌↔◌, ◌++◌, ◌∷◌, [], List, length, map, slice_index, All, IsTrue, IfOk, IfErr, OnOk};
 ghost use Rattle.term_table.specs.declared.term_row.TermRow.{TermRow};
 ghost use Rattle.term_table.specs.TermEntry.{AddGrows};
-ghost use Rattle.formula_table.specs.Reach.{ReachesRow};
+ghost use Rattle.formula_shape.specs.Reach.{ReachesRow};
 ghost use Rattle.formula_table.specs.Marks.{AreMarks};
-ghost use Rattle.formula_table.specs.Draft.{IsFormula};
+ghost use Rattle.formula_shape.specs.Draft.{IsFormula};
 ghost use Rattle.formula_table.specs.Entry.{entered_row, NumbersStand, StopsTerm, RowGrows, StopsRow, RowsGrow, StopsRows};
 
 use crate::enter_fault::EnterFault;
-use crate::shape::Shape;
-use crate::shape_row::ShapeRow;
+use formula_shape::Shape;
+use formula_shape::ShapeRow;
 use std::alloc::Global;
 use term_table::{Memory, Numbers, TermEntry};
 

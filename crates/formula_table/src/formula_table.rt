@@ -1,18 +1,18 @@
 //! The table of formulas.
 ghost use Rattle.std.specs.Prelude.{◌≡◌, ◌<◌, ◌≤◌, ◌++◌, ◌∷◌, [], Some, length, slice_get, IfOk, IfErr, OnOk, OnErr};
 ghost use Rattle.formula_table.specs.Formulas.{no_formulas, first_formulas, IsFormulaTable, IsForallOf, NamesFirst, HasTriggers, FitsTable, RefusesEntered, with_foralls, with_entered};
-ghost use Rattle.formula_table.specs.Reach.{ReachesNode};
+ghost use Rattle.formula_shape.specs.Reach.{ReachesNode};
 ghost use Rattle.formula_table.specs.Marks.{AreMarks};
-ghost use Rattle.formula_table.specs.Draft.{IsFormula};
+ghost use Rattle.formula_shape.specs.Draft.{IsFormula};
 ghost use Rattle.formula_table.specs.Entry.{NodesGrow, StopsNodes, Enters, StopsEntry};
 
 use crate::enter_fault::EnterFault;
 use crate::enter_nodes::enter_nodes;
 use crate::enter_rows::enter_rows;
-use crate::items::put;
+use formula_shape::items::put;
 use crate::node::Node;
 use crate::reached::{reached_nodes, reached_rows};
-use crate::shape::Shape;
+use formula_shape::Shape;
 use crate::table_forall::TableForall;
 use indexmap::IndexMap;
 use std::alloc::Global;

@@ -2,7 +2,7 @@
 ghost use Rattle.std.specs.Prelude.{◌≡◌, IfOk};
 ghost use Rattle.formula_table.specs.Node.{entered_key};
 
-use crate::items::key_of;
+use formula_shape::items::key_of;
 use std::alloc::Global;
 use term_table::{Memory, Numbers};
 

@@ -1,14 +1,14 @@
 //! What of a shape is reached from a node.
 ghost use Rattle.std.specs.Prelude.{◌≡◌, ◌<◌, length, All, IfOk};
-ghost use Rattle.formula_table.specs.ShapeRow.{args_of};
-ghost use Rattle.formula_table.specs.ShapeNode.{rows_of, parts_of};
-ghost use Rattle.formula_table.specs.Reach.{ReachesNode, ReachesRow};
+ghost use Rattle.formula_shape.specs.ShapeRow.{args_of};
+ghost use Rattle.formula_shape.specs.ShapeNode.{rows_of, parts_of};
+ghost use Rattle.formula_shape.specs.Reach.{ReachesNode, ReachesRow};
 ghost use Rattle.formula_table.specs.Marks.{Marks, AreMarks, IsNamed};
-ghost use Rattle.formula_table.specs.Draft.{IsFormula};
+ghost use Rattle.formula_shape.specs.Draft.{IsFormula};
 
-use crate::shape::Shape;
-use crate::shape_node::ShapeNode;
-use crate::shape_row::ShapeRow;
+use formula_shape::Shape;
+use formula_shape::ShapeNode;
+use formula_shape::ShapeRow;
 use std::alloc::Global;
 use term_table::Memory;
 

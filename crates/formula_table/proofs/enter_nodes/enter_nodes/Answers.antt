@@ -1,6 +1,6 @@
 use Rattle.std.proofs.Common.{◌≡◌, ◌<◌, ◌+◌, ℕ, List, length, slice_get, Some, false, sym, ap, subst, ◌∙◌, arith}
 use Rattle.std.proofs.lemmas.Option.{slice_get-get_or, same_Some}
-use Rattle.formula_table.specs.Reach.{ReachesNode}
+use Rattle.formula_shape.specs.Reach.{ReachesNode}
 use Rattle.formula_table.specs.Entry.{EntersNode}
 use Rattle.formula_table.proofs.NodeLemmas.{NodesSoFar, nodes_none, nodes_next, grows_both}
 use Rattle.formula_table.proofs.enter_nodes.enter_nodes.Goals as goal

@@ -1,8 +1,8 @@
 use Rattle.std.proofs.Common.{[], ◌∷◌, ℕ, length, map, Option, sym, ap, ap₂, subst, ◌∙◌}
 use Rattle.std.specs.Prelude.{option_to_list, slice_index}
 use Rattle.std.specs.Option.{option_map}
-use Rattle.formula_table.specs.declared.shape_node.ShapeNode.{ShapeNode}
-use Rattle.formula_table.specs.declared.shape_forall.ShapeForall.{ShapeForall}
+use Rattle.formula_shape.specs.declared.shape_node.ShapeNode.{ShapeNode}
+use Rattle.formula_shape.specs.declared.shape_forall.ShapeForall.{ShapeForall}
 use Rattle.formula_table.specs.declared.table_forall.TableForall.{TableForall}
 use Rattle.formula_table.specs.declared.node.Node.TheVariants as made
 use Rattle.formula_table.specs.Formulas.{with_foralls, IsForallOf}

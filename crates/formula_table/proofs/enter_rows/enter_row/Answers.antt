@@ -2,8 +2,8 @@ use Rattle.std.proofs.Common.{◌<◌, ◌≤◌, ℕ, List, [], length, Some, A
 use Rattle.std.specs.Prelude.{slice_index}
 use Rattle.std.proofs.lemmas.List.Elements.{All-weaker, All-contains, All-contains_itself}
 use Rattle.term_table.specs.TermEntry.{AddGrows}
-use Rattle.formula_table.specs.declared.shape_row.ShapeRow.TheVariants.{App}
-use Rattle.formula_table.specs.Reach.ReachesRow.{argument}
+use Rattle.formula_shape.specs.declared.shape_row.ShapeRow.TheVariants.{App}
+use Rattle.formula_shape.specs.Reach.ReachesRow.{argument}
 use Rattle.formula_table.specs.Entry.{entered_row, RowGrows}
 use Rattle.formula_table.specs.Entry.EntersRow.{unreached}
 use Rattle.formula_table.proofs.EntryLemmas.{ok_map, row_added}

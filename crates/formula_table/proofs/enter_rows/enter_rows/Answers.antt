@@ -1,6 +1,6 @@
 use Rattle.std.proofs.Common.{◌≡◌, ◌<◌, ◌+◌, ◌++◌, [], ◌∷◌, ℕ, List, length, Some, false, ap, subst, sym, ◌∙◌, arith}
 use Rattle.std.proofs.lemmas.Option.{slice_get-get_or, same_Some}
-use Rattle.formula_table.specs.Reach.{ReachesRow}
+use Rattle.formula_shape.specs.Reach.{ReachesRow}
 use Rattle.formula_table.specs.Entry.{RowGrows, StopsRows}
 use Rattle.formula_table.proofs.EntryLemmas.{RowsSoFar, so_far_none, so_far_next, so_far_memory, err_map}
 use Rattle.formula_table.proofs.enter_rows.enter_rows.Goals as goal

@@ -1,7 +1,7 @@
 use Rattle.std.proofs.Common.{◌<◌, ◌+◌, Bool, false, List, Some, length, subst, sym, ap, ◌∙◌, arith}
 use Rattle.std.proofs.lemmas.Option.{slice_get-get_or}
 use Rattle.term_table.specs.ListLaws.{refilled}
-use Rattle.formula_table.specs.ShapeNode.{rows_of}
+use Rattle.formula_shape.specs.ShapeNode.{rows_of}
 use Rattle.formula_table.specs.Marks.{Marks, IsMarked}
 use Rattle.formula_table.proofs.MarkLemmas.{AreNamed, AreNamed-marked, AreNamed-unmarked, AreNamed-all, not_marked, unmarked}
 use Rattle.formula_table.proofs.reached.named_rows.Goals as goal

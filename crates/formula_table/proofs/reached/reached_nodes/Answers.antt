@@ -1,7 +1,7 @@
 use Rattle.std.proofs.Common.{◌≡◌, ◌<◌, ◌-◌, ℕ, Bool, List, Some, length, subst, sym, ap, ◌∙◌, arith}
 use Rattle.term_table.specs.ListLaws.{refilled}
-use Rattle.formula_table.specs.ShapeNode.{parts_of}
-use Rattle.formula_table.specs.Reach.{ReachesNode}
+use Rattle.formula_shape.specs.ShapeNode.{parts_of}
+use Rattle.formula_shape.specs.Reach.{ReachesNode}
 use Rattle.formula_table.specs.Marks.{Marks, IsMarked}
 use Rattle.formula_table.proofs.MarkLemmas.{IsClosing, looked_up, not_marked, nodes_start, nodes_marked_at, nodes_unmarked_at, nodes_marked}
 use Rattle.formula_table.proofs.reached.reached_nodes.Goals as goal

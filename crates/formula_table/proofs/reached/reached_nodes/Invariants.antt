@@ -1,6 +1,6 @@
 use Rattle.std.proofs.Common.{◌≡◌, ◌≤◌, length}
-use Rattle.formula_table.specs.ShapeNode.{parts_of}
-use Rattle.formula_table.specs.Reach.{ReachesNode}
+use Rattle.formula_shape.specs.ShapeNode.{parts_of}
+use Rattle.formula_shape.specs.Reach.{ReachesNode}
 use Rattle.formula_table.proofs.MarkLemmas.{IsClosing}
 use Rattle.formula_table.proofs.reached.reached_nodes.Given as goal
 

@@ -1,7 +1,7 @@
 use Rattle.std.proofs.Common.{◌≡◌, ◌<◌, ◌-◌, ℕ, Bool, List, Some, length, subst, sym, ap, ◌∙◌, arith}
 use Rattle.term_table.specs.ListLaws.{refilled}
-use Rattle.formula_table.specs.ShapeRow.{args_of}
-use Rattle.formula_table.specs.Reach.{ReachesRow}
+use Rattle.formula_shape.specs.ShapeRow.{args_of}
+use Rattle.formula_shape.specs.Reach.{ReachesRow}
 use Rattle.formula_table.specs.Marks.{Marks, IsMarked, IsNamed}
 use Rattle.formula_table.proofs.MarkLemmas.{IsClosing, looked_up, not_marked, rows_start, rows_marked_at, rows_unmarked_at, rows_marked}
 use Rattle.formula_table.proofs.reached.reached_rows.Goals as goal

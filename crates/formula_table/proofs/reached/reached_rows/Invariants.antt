@@ -1,6 +1,6 @@
 use Rattle.std.proofs.Common.{◌≤◌, length}
-use Rattle.formula_table.specs.ShapeRow.{args_of}
-use Rattle.formula_table.specs.Reach.{ReachesRow}
+use Rattle.formula_shape.specs.ShapeRow.{args_of}
+use Rattle.formula_shape.specs.Reach.{ReachesRow}
 use Rattle.formula_table.specs.Marks.{IsNamed}
 use Rattle.formula_table.proofs.MarkLemmas.{IsClosing}
 use Rattle.formula_table.proofs.reached.reached_rows.Given as goal

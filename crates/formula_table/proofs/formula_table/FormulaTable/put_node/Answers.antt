@@ -3,11 +3,11 @@ use Rattle.std.specs.Option.{option_map}
 use Rattle.std.specs.Map.{values_of}
 use Rattle.std.proofs.lemmas.Map.Entries.{length-values_of}
 use Rattle.formula_table.specs.declared.node.Node.{Node}
-use Rattle.formula_table.specs.Items.{with_item, same_key, Puts}
+use Rattle.formula_shape.specs.Items.{with_item, same_key, Puts}
 use Rattle.formula_table.specs.Node.{same_entered, entered_key}
 use Rattle.formula_table.specs.Formulas.{Formulas, FitsTable, with_entered}
 use Rattle.formula_table.specs.TableInside.{table_of}
-use Rattle.formula_table.proofs.Keyed.{item_put, item_full, AreKeyed-put}
+use Rattle.formula_shape.specs.ItemLaws.{item_put, item_full, AreKeyed-put}
 use Rattle.formula_table.proofs.Same.{entered_by_keys}
 use Rattle.formula_table.proofs.TableLemmas.{IsFormulaTable-node}
 use Rattle.formula_table.proofs.formula_table.FormulaTable.put_node.Goals as goal

@@ -1,0 +1,9 @@
+pub mod Items
+pub mod ItemLaws
+pub mod ShapeRow
+pub mod ShapeNode
+pub mod SameLaws
+pub mod Reach
+pub mod ReachLaws
+pub mod Draft
+pub mod DraftInside
