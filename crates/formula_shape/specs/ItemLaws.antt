@@ -86,6 +86,9 @@ module _ {X : Type 0} where
 same_pair : {A B : Type 0} (a c : A) (b d : B) → ◌≡◌ {A = Option (A × B)} (Some (a, b)) (Some (c, d)) → (a ≡ c) × (b ≡ d)
 same_pair {A} {B} a c b d e = let inside : (a, b) ≡ (c, d) = same_Some (a, b) (c, d) e in (ap (λ (p : A × B). p.0) inside, ap (λ (p : A × B). p.1) inside)
 
+not_lt : (m n : ℕ) → nat_lt m n ≡ false → n ≤ m
+not_lt m n h = grind arith
+
 lt_from : (m n : ℕ) → nat_lt m n ≡ true → m < n
 lt_from m n h = grind arith
 
@@ -121,3 +124,15 @@ module _ {X : Type 0} (key_of : X → List ℕ) (same : X → X → Bool) (by_ke
 -- items that were put are no more than may be
 pub within-put : {X : Type 0} (same : X → X → Bool) (most : ℕ) (new : X) (items : List X) → length items ≤ most → (n : ℕ) (after : List X) → with_item same most new items ≡ Some (n, after) → length after ≤ most
 within-put same most new items within = put_cases same most new items (λ _ after. length after ≤ most) (λ _ _. within) (λ _ room. omega (arith, length-append items (new ∷ [])))
+
+-- there is no room for an item that isn't found, where as many stand as may
+pub full_cases : {X : Type 0} (same : X → X → Bool) (most : ℕ) (new : X) (items : List X) → with_item same most new items ≡ None → (position_from (same new) 0 items ≡ None) × (most ≤ length items)
+full_cases {X} same most new items = by (position_from (same new) 0 items)
+  where
+    by : (o : Option ℕ) → item_or_new most new items o ≡ None → (o ≡ None) × (most ≤ length items)
+    by (Some n) h = absurd (none-some (n, items) (sym h))
+    by None h = room (nat_lt (length items) most) refl
+      where
+        room : (b : Bool) → nat_lt (length items) most ≡ b → (◌≡◌ {A = Option ℕ} None None) × (most ≤ length items)
+        room true fits = absurd (none-some (length items, items ++ new ∷ []) (sym h ∙ ap (λ b. cond b (Some (length items, items ++ new ∷ [])) None) fits))
+        room false full = (refl, not_lt (length items) most full)

@@ -115,22 +115,22 @@ nodes_marked nodes start marks closing = record { len = closing.len; only = clos
     all itself = closing.seeds start refl
     all (part_of_it {n = n} {part = part} {node = node} above at c) = closing.closed n node part (omega arith) (all above) at c
 
-pub rows_marked : (rows : List ShapeRow) (nodes : List ShapeNode) (start : ℕ) (marks : List Bool) → IsClosing rows args_of (ReachesRow rows nodes start) (IsNamed nodes start) 0 marks → AreMarks (length rows) (ReachesRow rows nodes start) marks
+pub rows_marked : (rows : List ShapeRow) (nodes : List ShapeNode) (start : ℕ) (marks : List Bool) → IsClosing rows args_of (ReachesRow rows nodes start) (IsNamed rows_of nodes start) 0 marks → AreMarks (length rows) (ReachesRow rows nodes start) marks
 rows_marked rows nodes start marks closing = record { len = closing.len; only = closing.only; each = λ n reach. all reach }
   where
     all : {n : ℕ} → ReachesRow rows nodes start n → IsMarked marks n
     all (named {n = n} {row = row} {node = node} reach at c) = closing.seeds row (record { place = n; node = node; reached = reach; stands = at; named = c })
     all (argument {n = n} {arg = arg} {row = row} above at c) = closing.closed n row arg (omega arith) (all above) at c
 
--- the rows that the nodes below a number name are marked
-pub record AreNamed (nodes : List ShapeNode) (start rows below : ℕ) (marks : List Bool) : Type 0 where
+-- what the nodes below a number name is marked
+pub record AreNamed (names : ShapeNode → List ℕ) (nodes : List ShapeNode) (start rows below : ℕ) (marks : List Bool) : Type 0 where
   pub len : length marks ≡ rows
-  pub only : (row : ℕ) → IsMarked marks row → IsNamed nodes start row
-  pub each : (n row : ℕ) (node : ShapeNode) → n < below → ReachesNode nodes start n → slice_get nodes n ≡ Some node → Contains (rows_of node) row → IsMarked marks row
+  pub only : (row : ℕ) → IsMarked marks row → IsNamed names nodes start row
+  pub each : (n row : ℕ) (node : ShapeNode) → n < below → ReachesNode nodes start n → slice_get nodes n ≡ Some node → Contains (names node) row → IsMarked marks row
 
-module _ (nodes : List ShapeNode) (start rows : ℕ) where
-  -- a reached node has its rows marked
-  pub AreNamed-marked : (n : ℕ) (node : ShapeNode) (old new : List Bool) → ReachesNode nodes start n → slice_get nodes n ≡ Some node → Marks (rows_of node) old new → AreNamed nodes start rows n old → AreNamed nodes start rows (n + 1) new
+module _ (names : ShapeNode → List ℕ) (nodes : List ShapeNode) (start rows : ℕ) where
+  -- a reached node has what it names marked
+  pub AreNamed-marked : (n : ℕ) (node : ShapeNode) (old new : List Bool) → ReachesNode nodes start n → slice_get nodes n ≡ Some node → Marks (names node) old new → AreNamed names nodes start rows n old → AreNamed names nodes start rows (n + 1) new
   AreNamed-marked n node old new reach at marks are = record {
     len = marks.len ∙ are.len;
     only = λ row is. ⊎_elim (are.only row) (λ c. record { place = n; node = node; reached = reach; stands = at; named = c }) (marks.only row is);
@@ -139,12 +139,12 @@ module _ (nodes : List ShapeNode) (start rows : ℕ) where
         (λ not_earlier.
         let here : k ≡ n = omega arith in
         let same : other ≡ node = same_Some other node (sym at_k ∙ ap (slice_get nodes) here ∙ at) in
-        marks.each row (subst (λ z. Contains (rows_of z) row) same c))
+        marks.each row (subst (λ z. Contains (names z) row) same c))
         (cases_lt k n);
   }
 
   -- a node that isn't reached needs nothing
-  pub AreNamed-unmarked : (n : ℕ) (marks : List Bool) → (ReachesNode nodes start n → ⊥) → AreNamed nodes start rows n marks → AreNamed nodes start rows (n + 1) marks
+  pub AreNamed-unmarked : (n : ℕ) (marks : List Bool) → (ReachesNode nodes start n → ⊥) → AreNamed names nodes start rows n marks → AreNamed names nodes start rows (n + 1) marks
   AreNamed-unmarked n marks not are = record {
     len = are.len;
     only = are.only;
@@ -173,21 +173,21 @@ module _ (rows : List ShapeRow) (nodes : List ShapeNode) (foralls : List ShapeFo
   pub nodes_unmarked_at : (from n : ℕ) (marks : List Bool) → from ≡ n + 1 → (IsMarked marks n → ⊥) → IsClosing nodes parts_of (ReachesNode nodes start) (λ n. n ≡ start) from marks → IsClosing nodes parts_of (ReachesNode nodes start) (λ n. n ≡ start) n marks
   nodes_unmarked_at = closing-unmarked nodes parts_of (ReachesNode nodes start) (λ n. n ≡ start) (λ n x at. (lawful.nodes_fit n x at).parts_stand) (λ n x kid reach at c. part_of_it reach at c)
 
-  pub rows_start : (count : ℕ) (marks : List Bool) → count ≡ length rows → AreMarks (length rows) (IsNamed nodes start) marks → IsClosing rows args_of (ReachesRow rows nodes start) (IsNamed nodes start) count marks
+  pub rows_start : (count : ℕ) (marks : List Bool) → count ≡ length rows → AreMarks (length rows) (IsNamed rows_of nodes start) marks → IsClosing rows args_of (ReachesRow rows nodes start) (IsNamed rows_of nodes start) count marks
   rows_start count marks all are =
-      closing-start rows args_of (ReachesRow rows nodes start) (IsNamed nodes start) (λ n x at. (lawful.rows_fit n x at).args) (λ n x kid reach at c. argument reach at c) count marks (omega arith) are.len
+      closing-start rows args_of (ReachesRow rows nodes start) (IsNamed rows_of nodes start) (λ n x at. (lawful.rows_fit n x at).args) (λ n x kid reach at c. argument reach at c) count marks (omega arith) are.len
       (λ n is. let name = are.only n is in named name.reached name.stands name.named)
       are.each
 
-  pub rows_marked_at : (from n : ℕ) (x : ShapeRow) (old new : List Bool) → from ≡ n + 1 → IsMarked old n → slice_get rows n ≡ Some x → Marks (args_of x) old new → IsClosing rows args_of (ReachesRow rows nodes start) (IsNamed nodes start) from old → IsClosing rows args_of (ReachesRow rows nodes start) (IsNamed nodes start) n new
-  rows_marked_at = closing-marked rows args_of (ReachesRow rows nodes start) (IsNamed nodes start) (λ n x at. (lawful.rows_fit n x at).args) (λ n x kid reach at c. argument reach at c)
+  pub rows_marked_at : (from n : ℕ) (x : ShapeRow) (old new : List Bool) → from ≡ n + 1 → IsMarked old n → slice_get rows n ≡ Some x → Marks (args_of x) old new → IsClosing rows args_of (ReachesRow rows nodes start) (IsNamed rows_of nodes start) from old → IsClosing rows args_of (ReachesRow rows nodes start) (IsNamed rows_of nodes start) n new
+  rows_marked_at = closing-marked rows args_of (ReachesRow rows nodes start) (IsNamed rows_of nodes start) (λ n x at. (lawful.rows_fit n x at).args) (λ n x kid reach at c. argument reach at c)
 
-  pub rows_unmarked_at : (from n : ℕ) (marks : List Bool) → from ≡ n + 1 → (IsMarked marks n → ⊥) → IsClosing rows args_of (ReachesRow rows nodes start) (IsNamed nodes start) from marks → IsClosing rows args_of (ReachesRow rows nodes start) (IsNamed nodes start) n marks
-  rows_unmarked_at = closing-unmarked rows args_of (ReachesRow rows nodes start) (IsNamed nodes start) (λ n x at. (lawful.rows_fit n x at).args) (λ n x kid reach at c. argument reach at c)
+  pub rows_unmarked_at : (from n : ℕ) (marks : List Bool) → from ≡ n + 1 → (IsMarked marks n → ⊥) → IsClosing rows args_of (ReachesRow rows nodes start) (IsNamed rows_of nodes start) from marks → IsClosing rows args_of (ReachesRow rows nodes start) (IsNamed rows_of nodes start) n marks
+  rows_unmarked_at = closing-unmarked rows args_of (ReachesRow rows nodes start) (IsNamed rows_of nodes start) (λ n x at. (lawful.rows_fit n x at).args) (λ n x kid reach at c. argument reach at c)
 
--- where all nodes were passed, exactly the named rows are marked
-pub AreNamed-all : (nodes : List ShapeNode) (start rows below : ℕ) (marks : List Bool) → length nodes ≤ below → AreNamed nodes start rows below marks → AreMarks rows (IsNamed nodes start) marks
-AreNamed-all nodes start rows below marks all are = record {
+-- where all nodes were passed, exactly what is named is marked
+pub AreNamed-all : (names : ShapeNode → List ℕ) (nodes : List ShapeNode) (start rows below : ℕ) (marks : List Bool) → length nodes ≤ below → AreNamed names nodes start rows below marks → AreMarks rows (IsNamed names nodes start) marks
+AreNamed-all names nodes start rows below marks all are = record {
   len = are.len;
   only = are.only;
   each = λ row name. let within = slice_get_within nodes name.place name.node name.stands in are.each name.place row name.node (omega arith) name.reached name.stands name.named;

@@ -1,100 +1,39 @@
--- How a formula is entered: first its reached rows as terms, in order, and then its reached nodes, in order.
-use Rattle.std.specs.Prelude.{◌≡◌, ℕ, ◌+◌, ◌<◌, ◌⊎◌, min, max, List, [], ◌∷◌, ◌++◌, length, map, slice_get, slice_index, Some, None, option_map, option_to_list}
+-- How a formula is entered: its reached rows become terms, its reached foralls get the next numbers, and its reached nodes
+-- become nodes of the table, each in the formula's order.
+use Rattle.std.specs.Prelude.{◌≡◌, ℕ, ◌+◌, ◌<◌, ◌⊎◌, min, max, List, [], ◌∷◌, ◌++◌, length, map, slice_get, slice_index, Some}
 use Rattle.term_table.specs.declared.term_row.TermRow.{TermRow}
 use Rattle.term_table.specs.declared.trigger.Trigger.{Trigger}
-use Rattle.term_table.specs.Terms.{term_row, HasRow, IsAbsent}
-use Rattle.formula_table.specs.declared.node.Node.{Node}
-use Rattle.formula_table.specs.declared.node.Node.TheVariants as entered
+use Rattle.term_table.specs.Questions.{AreAll}
+use Rattle.term_table.specs.Terms.{term_row}
 use Rattle.formula_shape.specs.declared.shape_row.ShapeRow.TheVariants.{App}
 use Rattle.formula_shape.specs.declared.shape_node.ShapeNode.{ShapeNode}
 use Rattle.formula_shape.specs.declared.shape_node.ShapeNode.TheVariants.{Equal, Atom, And, Or, Forall}
 use Rattle.formula_shape.specs.declared.shape_forall.ShapeForall.{ShapeForall}
+use Rattle.formula_shape.specs.Reach.{ReachesNode, ReachesRow}
+use Rattle.formula_shape.specs.Draft.{Formula}
+use Rattle.formula_table.specs.declared.node.Node.{Node}
+use Rattle.formula_table.specs.declared.node.Node.TheVariants as entered
 use Rattle.formula_table.specs.declared.table_forall.TableForall.{TableForall}
 use Rattle.formula_table.specs.declared.enter_fault.EnterFault.{EnterFault}
 use Rattle.formula_table.specs.declared.enter_fault.EnterFault.TheVariants.{TermsFull, NodesFull, Memory}
-use Rattle.formula_shape.specs.Reach.{ReachesNode, ReachesRow}
-use Rattle.formula_shape.specs.Draft.{Formula}
-use Rattle.formula_table.specs.Formulas.{Formulas, with_foralls, with_entered}
+use Rattle.formula_table.specs.Formulas.{Formulas}
+use Rattle.formula_table.specs.InOrder.{AreInOrder, IsFullFor}
 
 -- the row over the terms that its arguments became
 abbrev pub entered_row : List ℕ → ℕ → List ℕ → TermRow
 entered_row terms symbol args = term_row symbol (map (slice_index terms) args)
 
--- what the next row does to a table of terms: the rows it adds, and its number, which is 0 for a row that isn't reached
-pub data EntersRow (formula : Formula) (rows : List TermRow) (limit : ℕ) (terms : List ℕ) (n : ℕ) : List TermRow → ℕ → Type 0 where
-  unreached : (ReachesRow formula.rows formula.nodes formula.root n → ⊥) → EntersRow formula rows limit terms n [] 0
-  new_term : {symbol : ℕ} {args : List ℕ} → ReachesRow formula.rows formula.nodes formula.root n → slice_get formula.rows n ≡ Some (App symbol args) → IsAbsent rows (entered_row terms symbol args) → length rows < limit → EntersRow formula rows limit terms n (entered_row terms symbol args ∷ []) (length rows)
-  old_term : {symbol term : ℕ} {args : List ℕ} → ReachesRow formula.rows formula.nodes formula.root n → slice_get formula.rows n ≡ Some (App symbol args) → HasRow rows term (entered_row terms symbol args) → EntersRow formula rows limit terms n [] term
-
--- the first rows of the formula were entered: the rows that were added, and the terms that they became, one after another
-pub data EntersRows (formula : Formula) (rows : List TermRow) (limit : ℕ) : List TermRow → List ℕ → Type 0 where
-  none : EntersRows formula rows limit [] []
-  then_row : {added more : List TermRow} {terms : List ℕ} {term : ℕ} → EntersRows formula rows limit added terms → EntersRow formula (rows ++ added) limit terms (length terms) more term → EntersRows formula rows limit (added ++ more) (terms ++ term ∷ [])
-
--- the next row is reached, its term is new, and as many terms stand as may
-pub record IsNextTermFull (formula : Formula) (rows : List TermRow) (limit : ℕ) (terms : List ℕ) : Type 0 where
+-- the row with this number is reached, and is this one over terms
+pub record BecomesRow (formula : Formula) (terms : List ℕ) (n : ℕ) (row : TermRow) : Type 0 where
   pub symbol : ℕ
   pub args : List ℕ
-  pub reached : ReachesRow formula.rows formula.nodes formula.root (length terms)
-  pub stands : slice_get formula.rows (length terms) ≡ Some (App symbol args)
-  pub absent : IsAbsent rows (entered_row terms symbol args)
-  pub full : length rows ≡ limit
+  pub reached : ReachesRow formula.rows formula.nodes formula.root n
+  pub stands : slice_get formula.rows n ≡ Some (App symbol args)
+  pub row_is : row ≡ entered_row terms symbol args
 
--- each number of a reached row is that of a term
-abbrev pub NumbersStand : Formula → ℕ → List ℕ → Type 0
-NumbersStand formula count terms = (n : ℕ) → n < length terms → ReachesRow formula.rows formula.nodes formula.root n → slice_index terms n < count
-
--- the row is new, and as many terms stand as may; or memory was refused, before the row was added or by adding it
-abbrev pub StopsTerm : List TermRow → ℕ → Type 0 → Type 0 → TermRow → EnterFault → Type 0
-StopsTerm rows limit unchanged refused row TermsFull = unchanged × IsAbsent rows row × (length rows ≡ limit)
-StopsTerm rows limit unchanged refused row NodesFull = ⊥
-StopsTerm rows limit unchanged refused row Memory = unchanged ⊎ refused
-
--- the next row was entered, and the terms grew by what it adds
-abbrev pub RowGrows : (List TermRow → Type 0) → Formula → List TermRow → ℕ → List ℕ → ℕ → Type 0
-RowGrows grown formula rows limit terms term = (more : List TermRow) × grown more × EntersRow formula rows limit terms (length terms) more term
-
--- the next row was not entered
-abbrev pub StopsRow : Type 0 → Type 0 → Formula → List TermRow → ℕ → List ℕ → EnterFault → Type 0
-StopsRow unchanged refused formula rows limit terms TermsFull = unchanged × IsNextTermFull formula rows limit terms
-StopsRow unchanged refused formula rows limit terms NodesFull = ⊥
-StopsRow unchanged refused formula rows limit terms Memory = unchanged ⊎ refused
-
--- all rows were entered, and the terms grew by what they added
-pub record RowsGrow (grown : List TermRow → Type 0) (formula : Formula) (rows : List TermRow) (limit : ℕ) (terms : List ℕ) : Type 0 where
-  pub added : List TermRow
-  pub grew : grown added
-  pub enters : EntersRows formula rows limit added terms
-  pub all : length terms ≡ length formula.rows
-
--- the first rows were entered, the terms grew by what they added, and there is no room for the next term
-pub record FillsTerms (grown : List TermRow → Type 0) (formula : Formula) (rows : List TermRow) (limit : ℕ) : Type 0 where
-  pub added : List TermRow
-  pub terms : List ℕ
-  pub grew : grown added
-  pub enters : EntersRows formula rows limit added terms
-  pub full : IsNextTermFull formula (rows ++ added) limit terms
-
--- the first rows were entered, the terms grew by what they added, and perhaps memory was refused for the next term
-pub record LacksMemory (grown refused : List TermRow → Type 0) (formula : Formula) (rows : List TermRow) (limit : ℕ) : Type 0 where
-  pub added : List TermRow
-  pub terms : List ℕ
-  pub grew : grown added ⊎ refused added
-  pub enters : EntersRows formula rows limit added terms
-
--- not all rows were entered
-abbrev pub StopsRows : (List TermRow → Type 0) → (List TermRow → Type 0) → Formula → List TermRow → ℕ → EnterFault → Type 0
-StopsRows grown refused formula rows limit TermsFull = FillsTerms grown formula rows limit
-StopsRows grown refused formula rows limit NodesFull = ⊥
-StopsRows grown refused formula rows limit Memory = LacksMemory grown refused formula rows limit
-
--- the node over terms, over earlier nodes, or over the next forall; the terms of an equation in ascending order
-abbrev pub entered_node : List ℕ → List ℕ → ℕ → ShapeNode → Node
-entered_node terms numbers next (Equal positive left right) = entered.Equal positive (min (slice_index terms left) (slice_index terms right)) (max (slice_index terms left) (slice_index terms right))
-entered_node terms numbers next (Atom positive row) = entered.Atom positive (slice_index terms row)
-entered_node terms numbers next (And parts) = entered.And (map (slice_index numbers) parts)
-entered_node terms numbers next (Or parts) = entered.Or (map (slice_index numbers) parts)
-entered_node terms numbers next (Forall index) = entered.Forall next
+-- the first rows were entered: the rows that were added, and the term of each, which means nothing for a row that isn't reached
+abbrev pub EntersRows : Formula → List TermRow → ℕ → List TermRow → List ℕ → Type 0
+EntersRows formula rows limit added terms = AreInOrder (BecomesRow formula terms) rows limit (length terms) added terms
 
 -- a trigger with the number of its forall and its place
 abbrev pub placed : ℕ → ℕ → Trigger → Trigger
@@ -109,72 +48,112 @@ numbered forall place (trigger ∷ triggers) = placed forall place trigger ∷ n
 abbrev pub table_forall : ℕ → ShapeForall → TableForall
 table_forall number new = record { variables = new.variables; triggers = numbered number 0 new.triggers }
 
--- the foralls that a node brings
-abbrev pub brought_foralls : List ShapeForall → ℕ → ShapeNode → List TableForall
-brought_foralls foralls next (Equal positive left right) = []
-brought_foralls foralls next (Atom positive row) = []
-brought_foralls foralls next (And parts) = []
-brought_foralls foralls next (Or parts) = []
-brought_foralls foralls next (Forall index) = option_to_list (option_map (table_forall next) (slice_get foralls index))
+-- a reached node is the forall with this index
+pub record ReachesForall (formula : Formula) (index : ℕ) : Type 0 where
+  pub node : ℕ
+  pub reached : ReachesNode formula.nodes formula.root node
+  pub stands : slice_get formula.nodes node ≡ Some (Forall index)
 
--- what the next node does to a table: the table after it, and its number, which is 0 for a node that isn't reached
-pub data EntersNode (formula : Formula) (terms : List ℕ) (table : Formulas) (numbers : List ℕ) : Formulas → ℕ → Type 0 where
-  unreached : (ReachesNode formula.nodes formula.root (length numbers) → ⊥) → EntersNode formula terms table numbers table 0
-  of_reached : {node : ShapeNode} {after : Formulas} {number : ℕ} → ReachesNode formula.nodes formula.root (length numbers) → slice_get formula.nodes (length numbers) ≡ Some node → with_entered (entered_node terms numbers (length table.foralls) node) (with_foralls (brought_foralls formula.foralls (length table.foralls) node) table) ≡ Some (number, after) → EntersNode formula terms table numbers after number
+-- the first foralls were entered: those that are reached got the next numbers, in order
+pub record EntersForalls (formula : Formula) (old added : List TableForall) (numbers : List ℕ) : Type 0 where
+  pub reached : List ℕ
+  pub all : AreAll (λ index. (index < length numbers) × ReachesForall formula index) reached
+  pub count : length reached ≡ length added
+  pub each : (k index : ℕ) (forall : ShapeForall) → slice_get reached k ≡ Some index → slice_get formula.foralls index ≡ Some forall → (slice_index numbers index ≡ length old + k) × (slice_get added k ≡ Some (table_forall (length old + k) forall))
 
--- the first nodes of the formula were entered: the table after them, and their numbers, one after another
-pub data EntersNodes (formula : Formula) (terms : List ℕ) (table : Formulas) : Formulas → List ℕ → Type 0 where
-  none : EntersNodes formula terms table table []
-  then_node : {now after : Formulas} {numbers : List ℕ} {number : ℕ} → EntersNodes formula terms table now numbers → EntersNode formula terms now numbers after number → EntersNodes formula terms table after (numbers ++ number ∷ [])
+-- the node over terms, numbers of foralls and earlier nodes; the terms of an equation in ascending order
+abbrev pub entered_node : List ℕ → List ℕ → List ℕ → ShapeNode → Node
+entered_node terms foralls numbers (Equal positive left right) = entered.Equal positive (min (slice_index terms left) (slice_index terms right)) (max (slice_index terms left) (slice_index terms right))
+entered_node terms foralls numbers (Atom positive row) = entered.Atom positive (slice_index terms row)
+entered_node terms foralls numbers (And parts) = entered.And (map (slice_index numbers) parts)
+entered_node terms foralls numbers (Or parts) = entered.Or (map (slice_index numbers) parts)
+entered_node terms foralls numbers (Forall index) = entered.Forall (slice_index foralls index)
 
--- the next node is reached, and there is no room for it
-pub record IsNextNodeFull (formula : Formula) (terms : List ℕ) (table : Formulas) (numbers : List ℕ) : Type 0 where
-  pub node : ShapeNode
-  pub reached : ReachesNode formula.nodes formula.root (length numbers)
-  pub stands : slice_get formula.nodes (length numbers) ≡ Some node
-  pub full : with_entered (entered_node terms numbers (length table.foralls) node) table ≡ None
+-- the node with this number is reached, and is this one in the table
+pub record BecomesNode (formula : Formula) (terms foralls numbers : List ℕ) (n : ℕ) (node : Node) : Type 0 where
+  pub shape_node : ShapeNode
+  pub reached : ReachesNode formula.nodes formula.root n
+  pub stands : slice_get formula.nodes n ≡ Some shape_node
+  pub node_is : node ≡ entered_node terms foralls numbers shape_node
 
--- each number of a reached node is that of a node
-abbrev pub NodeNumbersStand : Formula → Formulas → List ℕ → Type 0
-NodeNumbersStand formula table numbers = (n : ℕ) → n < length numbers → ReachesNode formula.nodes formula.root n → slice_index numbers n < length table.nodes
+-- the first nodes were entered: the nodes that were added, and the number of each
+abbrev pub EntersNodes : Formula → List ℕ → List ℕ → List Node → ℕ → List Node → List ℕ → Type 0
+EntersNodes formula terms foralls nodes limit added numbers = AreInOrder (BecomesNode formula terms foralls numbers) nodes limit (length numbers) added numbers
 
--- the next node was not entered
-abbrev pub StopsNode : Formula → List ℕ → Formulas → List ℕ → EnterFault → Type 0
-StopsNode formula terms table numbers TermsFull = ⊥
-StopsNode formula terms table numbers NodesFull = IsNextNodeFull formula terms table numbers
-StopsNode formula terms table numbers Memory = Unit {0}
+-- all rows were entered, and the terms grew by what they added
+pub record RowsGrow (grown : List TermRow → Type 0) (formula : Formula) (rows : List TermRow) (limit : ℕ) (terms : List ℕ) : Type 0 where
+  pub added : List TermRow
+  pub grew : grown added
+  pub enters : EntersRows formula rows limit added terms
+  pub all : length terms ≡ length formula.rows
+
+-- the first rows were entered, the terms grew by what they added, and there is no room for the next term
+pub record FillsTerms (grown : List TermRow → Type 0) (formula : Formula) (rows : List TermRow) (limit : ℕ) : Type 0 where
+  pub added : List TermRow
+  pub terms : List ℕ
+  pub grew : grown added
+  pub enters : EntersRows formula rows limit added terms
+  pub full : IsFullFor (BecomesRow formula terms (length terms)) (rows ++ added) limit
+
+-- the first rows were entered, the terms grew by what they added, and perhaps memory was refused for the next term
+pub record LacksMemory (grown refused : List TermRow → Type 0) (formula : Formula) (rows : List TermRow) (limit : ℕ) : Type 0 where
+  pub added : List TermRow
+  pub terms : List ℕ
+  pub grew : grown added ⊎ refused added
+  pub enters : EntersRows formula rows limit added terms
+
+-- all foralls were entered
+pub record ForallsGrow (formula : Formula) (old added : List TableForall) (numbers : List ℕ) : Type 0 where
+  pub enters : EntersForalls formula old added numbers
+  pub all : length numbers ≡ length formula.foralls
 
 -- all nodes were entered, and the root has this number
-pub record NodesGrow (formula : Formula) (terms : List ℕ) (old new : Formulas) (number : ℕ) : Type 0 where
+pub record NodesGrow (formula : Formula) (terms foralls : List ℕ) (old : Formulas) (added : List Node) (number : ℕ) : Type 0 where
   pub numbers : List ℕ
-  pub enters : EntersNodes formula terms old new numbers
+  pub enters : EntersNodes formula terms foralls old.nodes old.limit added numbers
   pub all : length numbers ≡ length formula.nodes
   pub root : slice_get numbers formula.root ≡ Some number
 
 -- the first nodes were entered, and there is no room for the next
-pub record FillsNodes (formula : Formula) (terms : List ℕ) (old : Formulas) : Type 0 where
-  pub table : Formulas
+pub record FillsNodes (formula : Formula) (terms foralls : List ℕ) (old : Formulas) : Type 0 where
+  pub added : List Node
   pub numbers : List ℕ
-  pub enters : EntersNodes formula terms old table numbers
-  pub full : IsNextNodeFull formula terms table numbers
+  pub enters : EntersNodes formula terms foralls old.nodes old.limit added numbers
+  pub full : IsFullFor (BecomesNode formula terms foralls numbers (length numbers)) (old.nodes ++ added) old.limit
 
--- not all nodes were entered
-abbrev pub StopsNodes : Formula → List ℕ → Formulas → EnterFault → Type 0
-StopsNodes formula terms old TermsFull = ⊥
-StopsNodes formula terms old NodesFull = FillsNodes formula terms old
-StopsNodes formula terms old Memory = Unit {0}
+-- the table grew by the foralls and the nodes of the formula, over these terms, and the root has this number
+pub record TableGrows (formula : Formula) (terms : List ℕ) (old new : Formulas) (number : ℕ) : Type 0 where
+  pub foralls : List TableForall
+  pub forall_numbers : List ℕ
+  pub foralls_grow : ForallsGrow formula old.foralls foralls forall_numbers
+  pub nodes : List Node
+  pub nodes_grow : NodesGrow formula terms forall_numbers old nodes number
+  pub new_is : new ≡ record { nodes = old.nodes ++ nodes; foralls = old.foralls ++ foralls; limit = old.limit }
 
--- the formula was entered: its rows as terms, which grew by what they added, and its nodes, of which the root has this number
+-- over these terms there is no room for all nodes
+pub record FillsTable (formula : Formula) (terms : List ℕ) (old : Formulas) : Type 0 where
+  pub foralls : List TableForall
+  pub forall_numbers : List ℕ
+  pub foralls_grow : ForallsGrow formula old.foralls foralls forall_numbers
+  pub fills : FillsNodes formula terms forall_numbers old
+
+-- why the table did not grow
+abbrev pub StopsTable : Formula → List ℕ → Formulas → EnterFault → Type 0
+StopsTable formula terms old TermsFull = ⊥
+StopsTable formula terms old NodesFull = FillsTable formula terms old
+StopsTable formula terms old Memory = Unit {0}
+
+-- the formula was entered: its rows as terms, then its foralls and nodes, of which the root has this number
 pub record Enters (grown : List TermRow → Type 0) (formula : Formula) (rows : List TermRow) (limit : ℕ) (old new : Formulas) (number : ℕ) : Type 0 where
   pub terms : List ℕ
   pub rows_grow : RowsGrow grown formula rows limit terms
-  pub nodes_grow : NodesGrow formula terms old new number
+  pub table_grows : TableGrows formula terms old new number
 
 -- the rows were entered as terms, and there is no room for all nodes
 pub record LacksNodes (grown : List TermRow → Type 0) (formula : Formula) (rows : List TermRow) (limit : ℕ) (old : Formulas) : Type 0 where
   pub terms : List ℕ
   pub rows_grow : RowsGrow grown formula rows limit terms
-  pub fills : FillsNodes formula terms old
+  pub fills : FillsTable formula terms old
 
 -- the formula was not entered
 abbrev pub StopsEntry : (List TermRow → Type 0) → (List TermRow → Type 0) → Formula → List TermRow → ℕ → Formulas → EnterFault → Type 0

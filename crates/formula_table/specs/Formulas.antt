@@ -8,6 +8,7 @@ use Rattle.formula_table.specs.declared.table_forall.TableForall.{TableForall}
 use Rattle.formula_table.specs.declared.enter_fault.EnterFault.{EnterFault}
 use Rattle.formula_table.specs.declared.enter_fault.EnterFault.TheVariants.{TermsFull, NodesFull, Memory}
 use Rattle.formula_shape.specs.Items.{with_item}
+use Rattle.formula_table.specs.InOrder.{StandsNowhere}
 use Rattle.formula_table.specs.Node.{children_of, same_entered}
 
 -- nodes and foralls by number, and how many nodes there may be
@@ -69,11 +70,11 @@ FitsTable table (And parts) = All (λ part. part < length table.nodes) parts
 FitsTable table (Or parts) = All (λ part. part < length table.nodes) parts
 FitsTable table (Forall forall) = forall < length table.foralls
 
--- there was no room for the node; or memory was refused
-abbrev pub RefusesEntered : Option (ℕ × Formulas) → EnterFault → Type 0
-RefusesEntered put TermsFull = ⊥
-RefusesEntered put NodesFull = put ≡ None
-RefusesEntered put Memory = Unit {0}
+-- the node stands nowhere, and there are as many as may be; or memory was refused
+abbrev pub RefusesEntered : Node → Formulas → EnterFault → Type 0
+RefusesEntered new table TermsFull = ⊥
+RefusesEntered new table NodesFull = StandsNowhere table.nodes new × (length table.nodes ≡ table.limit)
+RefusesEntered new table Memory = Unit {0}
 
 -- the table has more nodes and foralls at its ends
 pub record GrowsTable (old new : Formulas) : Type 0 where

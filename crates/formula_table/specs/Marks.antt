@@ -1,7 +1,6 @@
 -- Marks, one for each number below a length.
 use Rattle.std.specs.Prelude.{◌≡◌, ℕ, ◌⊎◌, Bool, true, List, length, slice_get, Some, Contains}
 use Rattle.formula_shape.specs.declared.shape_node.ShapeNode.{ShapeNode}
-use Rattle.formula_shape.specs.ShapeNode.{rows_of}
 use Rattle.formula_shape.specs.Reach.{ReachesNode}
 
 -- the number is marked
@@ -21,10 +20,10 @@ pub record Marks (places : List ℕ) (old new : List Bool) : Type 0 where
   pub each : (n : ℕ) → Contains places n → IsMarked new n
   pub only : (n : ℕ) → IsMarked new n → IsMarked old n ⊎ Contains places n
 
--- a reached node names the row
-pub record IsNamed (nodes : List ShapeNode) (start row : ℕ) : Type 0 where
+-- a reached node names the number
+pub record IsNamed (names : ShapeNode → List ℕ) (nodes : List ShapeNode) (start number : ℕ) : Type 0 where
   pub place : ℕ
   pub node : ShapeNode
   pub reached : ReachesNode nodes start place
   pub stands : slice_get nodes place ≡ Some node
-  pub named : Contains (rows_of node) row
+  pub named : Contains (names node) number

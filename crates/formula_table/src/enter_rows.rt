@@ -5,11 +5,11 @@ ghost use Rattle.term_table.specs.TermEntry.{AddGrows};
 ghost use Rattle.formula_shape.specs.Reach.{ReachesRow};
 ghost use Rattle.formula_table.specs.Marks.{AreMarks};
 ghost use Rattle.formula_shape.specs.Draft.{IsFormula};
-ghost use Rattle.formula_table.specs.Entry.{entered_row, NumbersStand, StopsTerm, RowGrows, StopsRow, RowsGrow, StopsRows};
+ghost use Rattle.formula_table.specs.Entry.{entered_row, RowsGrow};
+ghost use Rattle.formula_table.specs.EntryInside.{NumbersStand, StopsTerm, RowGrows, StopsRow, StopsRows};
 
 use crate::enter_fault::EnterFault;
-use formula_shape::Shape;
-use formula_shape::ShapeRow;
+use formula_shape::{Shape, ShapeRow};
 use std::alloc::Global;
 use term_table::{Memory, Numbers, TermEntry};
 

@@ -1,17 +1,18 @@
 //! The table of formulas.
 ghost use Rattle.std.specs.Prelude.{◌≡◌, ◌<◌, ◌≤◌, ◌++◌, ◌∷◌, [], Some, length, slice_get, IfOk, IfErr, OnOk, OnErr};
-ghost use Rattle.formula_table.specs.Formulas.{no_formulas, first_formulas, IsFormulaTable, IsForallOf, NamesFirst, HasTriggers, FitsTable, RefusesEntered, with_foralls, with_entered};
+ghost use Rattle.formula_table.specs.Formulas.{no_formulas, first_formulas, IsFormulaTable, IsForallOf, NamesFirst, HasTriggers, FitsTable, RefusesEntered, with_foralls, with_entered, GrowsTable};
 ghost use Rattle.formula_shape.specs.Reach.{ReachesNode};
 ghost use Rattle.formula_table.specs.Marks.{AreMarks};
 ghost use Rattle.formula_shape.specs.Draft.{IsFormula};
-ghost use Rattle.formula_table.specs.Entry.{NodesGrow, StopsNodes, Enters, StopsEntry};
+ghost use Rattle.formula_table.specs.Entry.{TableGrows, StopsTable, Enters, StopsEntry};
 
 use crate::enter_fault::EnterFault;
+use crate::enter_foralls::enter_foralls;
 use crate::enter_nodes::enter_nodes;
 use crate::enter_rows::enter_rows;
 use formula_shape::items::put;
 use crate::node::Node;
-use crate::reached::{reached_nodes, reached_rows};
+use crate::reached::{reached_foralls, reached_nodes, reached_rows};
 use formula_shape::Shape;
 use crate::table_forall::TableForall;
 use indexmap::IndexMap;
@@ -94,9 +95,9 @@ impl FormulaTable {
     }
 
     /// Enters what is reached from the root of the shape, without going into the bodies of foralls, in the shape's order.
-    /// First its rows are added as terms. Then its nodes are entered: a node that stands keeps its number, the terms of
-    /// an equation are put in ascending order, and a forall gets the next number, which its triggers carry with their
-    /// places. Gives the number of the root. After a refusal the table is as before, and the terms that were added stand.
+    /// First its rows are added as terms. Then its foralls get the next numbers, which their triggers carry with their
+    /// places. Then its nodes are entered: a node that stands keeps its number, and the terms of an equation are put in
+    /// ascending order. Gives the number of the root. After a refusal the table is as before, and the terms that were added stand.
     pub fn enter<E: TermEntry>(&mut self, terms: &mut E, shape: &Shape) -> Result<u32, EnterFault>
         ensures ok { IfOk result (Enters (E.grown terms.old terms.new) shape.now (E.rows terms.old) (E.limit terms.old) self.old self.new) }
         ensures fault { IfErr result (StopsEntry (E.grown terms.old terms.new) (λ added. (middle : E) × E.grown terms.old middle added × E.refused middle terms.new) shape.now (E.rows terms.old) (E.limit terms.old) self.old) }
@@ -111,19 +112,39 @@ impl FormulaTable {
         Ok(number)
     }
 
-    /// Enters the reached nodes, all or none. Gives the number of the root.
+    /// Enters the reached foralls and nodes. Gives the number of the root. After a refusal some may stand.
+    fn enter_some(
+        &mut self,
+        shape: &Shape,
+        nodes: &[bool],
+        terms: &[u32],
+    ) -> Result<u32, EnterFault>
+        requires formula { IsFormula shape.now }
+        requires reached { AreMarks (length shape.now.nodes) (ReachesNode shape.now.nodes shape.now.root) nodes.now }
+        requires terms { length terms.now ≡ length shape.now.rows }
+        ensures ok { IfOk result (TableGrows shape.now terms.now self.old self.new) }
+        ensures fault { IfErr result (StopsTable shape.now terms.now self.old) }
+        ensures grows { GrowsTable self.old self.new }
+    {
+        let alloc = self.allocator();
+        let foralls = reached_foralls(alloc, shape, nodes)?;
+        let numbers = enter_foralls(alloc, self, shape, &foralls)?;
+        let number = enter_nodes(alloc, self, shape, nodes, terms, &numbers)?;
+        Ok(number)
+    }
+
+    /// Enters the reached foralls and nodes, all or none. Gives the number of the root.
     fn enter_all(&mut self, shape: &Shape, nodes: &[bool], terms: &[u32]) -> Result<u32, EnterFault>
         requires formula { IsFormula shape.now }
         requires reached { AreMarks (length shape.now.nodes) (ReachesNode shape.now.nodes shape.now.root) nodes.now }
         requires terms { length terms.now ≡ length shape.now.rows }
-        ensures ok { IfOk result (NodesGrow shape.now terms.now self.old self.new) }
-        ensures fault { IfErr result (StopsNodes shape.now terms.now self.old) }
+        ensures ok { IfOk result (TableGrows shape.now terms.now self.old self.new) }
+        ensures fault { IfErr result (StopsTable shape.now terms.now self.old) }
         ensures err { OnErr result (self.new ≡ self.old) }
     {
-        let alloc = self.allocator();
         let kept_nodes = self.len();
         let kept_foralls = self.foralls();
-        match enter_nodes(alloc, self, shape, nodes, terms) {
+        match self.enter_some(shape, nodes, terms) {
             Ok(number) => return Ok(number),
             Err(fault) => {
                 self.cut(kept_nodes, kept_foralls);
@@ -141,7 +162,7 @@ impl FormulaTable {
     pub(crate) fn put_node(&mut self, node: Node) -> Result<u32, EnterFault>
         requires { FitsTable self.old node }
         ensures ok { IfOk result (λ n. with_entered node self.old ≡ Some (n, self.new)) }
-        ensures fault { IfErr result (RefusesEntered (with_entered node self.old)) }
+        ensures fault { IfErr result (RefusesEntered node self.old) }
         ensures err { OnErr result (self.new ≡ self.old) }
     {
         let alloc = *self.nodes.allocator();

@@ -2,6 +2,7 @@
 #![tactic(auto)]
 
 pub mod enter_fault;
+mod enter_foralls;
 mod enter_nodes;
 mod enter_rows;
 pub mod formula_table;

@@ -1,14 +1,13 @@
 //! What of a shape is reached from a node.
 ghost use Rattle.std.specs.Prelude.{◌≡◌, ◌<◌, length, All, IfOk};
 ghost use Rattle.formula_shape.specs.ShapeRow.{args_of};
-ghost use Rattle.formula_shape.specs.ShapeNode.{rows_of, parts_of};
+ghost use Rattle.formula_shape.specs.ShapeNode.{rows_of, parts_of, foralls_of};
 ghost use Rattle.formula_shape.specs.Reach.{ReachesNode, ReachesRow};
 ghost use Rattle.formula_table.specs.Marks.{Marks, AreMarks, IsNamed};
 ghost use Rattle.formula_shape.specs.Draft.{IsFormula};
+ghost use Rattle.formula_table.specs.Entry.{ReachesForall};
 
-use formula_shape::Shape;
-use formula_shape::ShapeNode;
-use formula_shape::ShapeRow;
+use formula_shape::{Shape, ShapeNode, ShapeRow};
 use std::alloc::Global;
 use term_table::Memory;
 
@@ -42,6 +41,17 @@ fn mark_rows(marks: &mut [bool], node: &ShapeNode)
     match node {
         ShapeNode::Equal { left, right, .. } => mark(marks, &[*left, *right]),
         ShapeNode::Atom { row, .. } => mark(marks, &[*row]),
+        _ => mark(marks, &[]),
+    }
+}
+
+/// Marks the forall that a node is.
+fn mark_foralls(marks: &mut [bool], node: &ShapeNode)
+    requires { All (λ index. index < length marks.old) (foralls_of node.now) }
+    ensures { Marks (foralls_of node.now) marks.old marks.new }
+{
+    match node {
+        ShapeNode::Forall { index } => mark(marks, &[*index]),
         _ => mark(marks, &[]),
     }
 }
@@ -80,7 +90,7 @@ pub(crate) fn reached_nodes(alloc: Global, shape: &Shape, start: u32) -> Result<
 fn named_rows(alloc: Global, shape: &Shape, start: u32, nodes: &[bool]) -> Result<Vec<bool>, Memory>
     requires formula { IsFormula shape.now }
     requires nodes { AreMarks (length shape.now.nodes) (ReachesNode shape.now.nodes start) nodes.now }
-    ensures { IfOk result (λ marks. AreMarks (length shape.now.rows) (IsNamed shape.now.nodes start) marks.items) }
+    ensures { IfOk result (λ marks. AreMarks (length shape.now.rows) (IsNamed rows_of shape.now.nodes start) marks.items) }
 {
     let mut marks = vec![in alloc; false; shape.rows() as usize]?;
     for n in 0..shape.nodes() {
@@ -110,5 +120,39 @@ pub(crate) fn reached_rows(
             mark_args(&mut marks, shape.row_at(n));
         }
     }
+    Ok(marks)
+}
+
+/// The foralls that these nodes are.
+fn named_foralls(
+    alloc: Global,
+    shape: &Shape,
+    start: u32,
+    nodes: &[bool],
+) -> Result<Vec<bool>, Memory>
+    requires formula { IsFormula shape.now }
+    requires nodes { AreMarks (length shape.now.nodes) (ReachesNode shape.now.nodes start) nodes.now }
+    ensures { IfOk result (λ marks. AreMarks (length shape.now.foralls) (IsNamed foralls_of shape.now.nodes start) marks.items) }
+{
+    let mut marks = vec![in alloc; false; shape.foralls() as usize]?;
+    for n in 0..shape.nodes() {
+        if nodes[n as usize] {
+            mark_foralls(&mut marks, shape.node_at(n));
+        }
+    }
+    Ok(marks)
+}
+
+/// The foralls that are reached from the root.
+pub(crate) fn reached_foralls(
+    alloc: Global,
+    shape: &Shape,
+    nodes: &[bool],
+) -> Result<Vec<bool>, Memory>
+    requires formula { IsFormula shape.now }
+    requires nodes { AreMarks (length shape.now.nodes) (ReachesNode shape.now.nodes shape.now.root) nodes.now }
+    ensures { IfOk result (λ marks. AreMarks (length shape.now.foralls) (ReachesForall shape.now) marks.items) }
+{
+    let marks = named_foralls(alloc, shape, shape.root(), nodes)?;
     Ok(marks)
 }

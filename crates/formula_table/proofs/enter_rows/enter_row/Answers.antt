@@ -1,16 +1,17 @@
-use Rattle.std.proofs.Common.{◌<◌, ◌≤◌, ℕ, List, [], length, Some, All, Contains, ap, subst, sym, ◌∙◌, true≢false}
+use Rattle.std.proofs.Common.{◌≡◌, ◌<◌, ◌≤◌, ℕ, List, [], length, Some, All, Contains, ap, subst, sym, ◌∙◌, true≢false}
 use Rattle.std.specs.Prelude.{slice_index}
 use Rattle.std.proofs.lemmas.List.Elements.{All-weaker, All-contains, All-contains_itself}
 use Rattle.term_table.specs.TermEntry.{AddGrows}
 use Rattle.formula_shape.specs.declared.shape_row.ShapeRow.TheVariants.{App}
 use Rattle.formula_shape.specs.Reach.ReachesRow.{argument}
-use Rattle.formula_table.specs.Entry.{entered_row, RowGrows}
-use Rattle.formula_table.specs.Entry.EntersRow.{unreached}
-use Rattle.formula_table.proofs.EntryLemmas.{ok_map, row_added}
+use Rattle.formula_table.specs.Entry.{entered_row}
+use Rattle.formula_table.specs.EntryInside.{RowGrows, StopsTerm}
+use Rattle.formula_table.specs.InOrder.PutsNext.{nothing}
+use Rattle.formula_table.proofs.EntryLemmas.{ok_map, fault_map, row_added, stops_row}
 use Rattle.formula_table.proofs.enter_rows.enter_row.Goals as goal
 
 pub returns-then-not-reached-clause-ok : goal.returns-then-not-reached-clause-ok
-returns-then-not-reached-clause-ok g c = ([], g.met.E.TermEntry.grown_none c.args.terms.now, unreached (λ reach. true≢false (sym (c.requires.reached.1 reach) ∙ c.if-not-reached.true)))
+returns-then-not-reached-clause-ok g c = ([], g.met.E.TermEntry.grown_none c.args.terms.now, nothing (λ row becomes. true≢false (sym (c.requires.reached.1 becomes.reached) ∙ c.if-not-reached.true)))
 
 pub add_term-requires-clause-named : goal.add_term-requires-clause-named
 add_term-requires-clause-named g c =
@@ -45,3 +46,14 @@ returns-in-App-clause-ok g c =
     (λ more grew. (g.met.E.TermEntry.grown_rows c.args.terms.now c.add_term.new.terms more grew).0)
     term (subst (λ (args : List ℕ). AddGrows old limit new grown (entered_row numbers c.in-App.symbol args) term) c.as_slice.ensures adds))
     c.add_term.ensures.ok
+
+pub returns-in-App-clause-fault : goal.returns-in-App-clause-fault
+returns-in-App-clause-fault g c =
+    let at = c.row_at.ensures ∙ ap Some c.in-App.is in
+    let rows = g.E.TermEntry.rows c.args.terms.now in
+    let limit = g.E.TermEntry.limit c.args.terms.now in
+    let numbers = c.args.numbers.now in
+    fault_map _ _ c.add_term.result
+    (λ fault stops. stops_row c.args.shape.now rows limit numbers _ _ c.in-App.symbol c.in-App.args (c.requires.reached.0 c.if-not-reached.false) at fault
+    (subst (λ (args : List ℕ). StopsTerm rows limit (c.add_term.new.terms ≡ c.args.terms.now) (g.E.TermEntry.refused c.args.terms.now c.add_term.new.terms) (entered_row numbers c.in-App.symbol args) fault) c.as_slice.ensures stops))
+    c.add_term.ensures.fault

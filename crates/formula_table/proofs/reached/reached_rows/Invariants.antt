@@ -1,5 +1,6 @@
 use Rattle.std.proofs.Common.{◌≤◌, length}
 use Rattle.formula_shape.specs.ShapeRow.{args_of}
+use Rattle.formula_shape.specs.ShapeNode.{rows_of}
 use Rattle.formula_shape.specs.Reach.{ReachesRow}
 use Rattle.formula_table.specs.Marks.{IsNamed}
 use Rattle.formula_table.proofs.MarkLemmas.{IsClosing}
@@ -7,7 +8,7 @@ use Rattle.formula_table.proofs.reached.reached_rows.Given as goal
 
 -- from the row on, arguments of what is marked are marked
 abbrev pub invariant-loop-n : goal.invariant-loop-n
-invariant-loop-n l = (l.n ≤ length l.shape.rows) × IsClosing l.shape.rows args_of (ReachesRow l.shape.rows l.shape.nodes l.start) (IsNamed l.shape.nodes l.start) l.n l.marks.items
+invariant-loop-n l = (l.n ≤ length l.shape.rows) × IsClosing l.shape.rows args_of (ReachesRow l.shape.rows l.shape.nodes l.start) (IsNamed rows_of l.shape.nodes l.start) l.n l.marks.items
 
 abbrev pub decreases-loop-n : goal.decreases-loop-n
 decreases-loop-n l = l.n

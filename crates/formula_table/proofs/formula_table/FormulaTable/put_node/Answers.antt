@@ -5,10 +5,12 @@ use Rattle.std.proofs.lemmas.Map.Entries.{length-values_of}
 use Rattle.formula_table.specs.declared.node.Node.{Node}
 use Rattle.formula_shape.specs.Items.{with_item, same_key, Puts}
 use Rattle.formula_table.specs.Node.{same_entered, entered_key}
-use Rattle.formula_table.specs.Formulas.{Formulas, FitsTable, with_entered}
+use Rattle.formula_table.specs.Formulas.{Formulas, FitsTable, RefusesEntered, with_entered}
 use Rattle.formula_table.specs.TableInside.{table_of}
-use Rattle.formula_shape.specs.ItemLaws.{item_put, item_full, AreKeyed-put}
-use Rattle.formula_table.proofs.Same.{entered_by_keys}
+use Rattle.formula_table.specs.declared.enter_fault.EnterFault.TheVariants.{NodesFull}
+use Rattle.formula_shape.specs.SameLaws.{absent}
+use Rattle.formula_shape.specs.ItemLaws.{item_put, item_full, full_cases, AreKeyed-put}
+use Rattle.formula_table.proofs.Same.{entered_by_keys, entered_told}
 use Rattle.formula_table.proofs.TableLemmas.{IsFormulaTable-node}
 use Rattle.formula_table.proofs.formula_table.FormulaTable.put_node.Goals as goal
 
@@ -18,9 +20,11 @@ put-requires c = omega (arith, length-values_of c.self.inside.nodes.entries, c.s
 pub returns-in-None-clause-fault : goal.returns-in-None-clause-fault
 returns-in-None-clause-fault c =
     let entries = c.self.inside.nodes.entries in
-    let puts = subst (Puts (with_item same_key c.self.inside.limit (c.in_ok-key.key, c.args.node) entries) entries c.put.new.items.entries) c.in-None.is c.in_ok-put.ensures.ok in
-    ap (with_entered c.args.node) (sym c.self.view_is)
-    ∙ ap (option_map (λ (put : ℕ × List Node). (put.0, record (table_of c.self.inside) { nodes = put.1 }))) (item_full entered_key same_entered entered_by_keys c.self.inside.limit c.in_ok-key.key c.args.node entries c.self.invariant.keyed c.in_ok-key.ensures puts.0)
+    let nodes = values_of entries in
+    let limit = c.self.inside.limit in
+    let puts = subst (Puts (with_item same_key limit (c.in_ok-key.key, c.args.node) entries) entries c.put.new.items.entries) c.in-None.is c.in_ok-put.ensures.ok in
+    let full = full_cases same_entered limit c.args.node nodes (item_full entered_key same_entered entered_by_keys limit c.in_ok-key.key c.args.node entries c.self.invariant.keyed c.in_ok-key.ensures puts.0) in
+    subst (λ (table : Formulas). RefusesEntered c.args.node table NodesFull) c.self.view_is (absent same_entered entered_told c.args.node nodes full.0, omega (arith, full.1, c.self.invariant.is_table.within))
 
 pub invariant_of-self-in-Some : goal.invariant_of-self-in-Some
 invariant_of-self-in-Some c =

@@ -4,8 +4,8 @@ use Rattle.std.proofs.lemmas.Option.{slice_get_within}
 use Rattle.term_table.specs.declared.trigger.Trigger.{Trigger}
 use Rattle.term_table.specs.ListLaws.{take-slice_get}
 use Rattle.formula_table.specs.Entry.{numbered, placed}
-use Rattle.formula_table.proofs.NodeLemmas.{numbered-push}
-use Rattle.formula_table.proofs.enter_nodes.numbered_forall.Goals as goal
+use Rattle.formula_table.proofs.ForallLemmas.{numbered-push}
+use Rattle.formula_table.proofs.enter_foralls.numbered_forall.Goals as goal
 
 pub loop-place-preserved : goal.loop-place-preserved
 loop-place-preserved c =

@@ -1,6 +1,6 @@
 use Rattle.std.proofs.Common.{◌≡◌, take}
 use Rattle.formula_table.specs.Entry.{numbered}
-use Rattle.formula_table.proofs.enter_nodes.numbered_forall.Given as goal
+use Rattle.formula_table.proofs.enter_foralls.numbered_forall.Given as goal
 
 -- the triggers so far have their numbers
 abbrev pub invariant-loop-place : goal.invariant-loop-place

@@ -1,0 +1,200 @@
+-- How foralls are entered, one after another.
+use Rattle.std.proofs.Common.{◌≡◌, ℕ, zero, suc, ◌+◌, ◌<◌, ◌≤◌, ◌⊎◌, ◌↔◌, Bool, true, false, List, [], ◌∷◌, ◌++◌, length, get_or, slice_get, Option, Some, None, All, AllPairs, Contains, refl, sym, ap, subst, ◌∙◌, inl, inr, ⊎_elim, append-nil, append_assoc, arith, true≢false}
+use Rattle.std.specs.Prelude.{slice_index}
+use Rattle.std.proofs.lemmas.Bool.{cases_lt}
+use Rattle.std.proofs.lemmas.List.{length-append}
+use Rattle.std.proofs.lemmas.List.Elements.{Contains-push, Contains-push_cases, Contains-append_left}
+use Rattle.std.proofs.lemmas.List.Quantifiers.{all_pairs_push}
+use Rattle.std.proofs.lemmas.Option.{none-some, same_Some, slice_get_within, slice_get-get_or}
+use Rattle.term_table.specs.declared.trigger.Trigger.{Trigger}
+use Rattle.term_table.specs.Questions.{AreAll}
+use Rattle.term_table.specs.Trigger.{IsValid, Occurs}
+use Rattle.term_table.specs.Trigger.Occurs.{at_root, below}
+use Rattle.term_table.specs.ListLaws.{All-slice_get, element_at, slice_get-append_left, slice_get-push, push_cases, place_from_Contains, Contains-slice_get}
+use Rattle.formula_shape.specs.declared.shape_forall.ShapeForall.{ShapeForall}
+use Rattle.formula_shape.specs.Draft.{Formula, FitsTrigger}
+use Rattle.formula_table.specs.declared.table_forall.TableForall.{TableForall}
+use Rattle.formula_table.specs.Formulas.{Formulas, IsForallOf, IsTriggerOf, GrowsTable, with_foralls}
+use Rattle.formula_table.specs.Entry.{placed, numbered, table_forall, ReachesForall, EntersForalls}
+use Rattle.formula_table.specs.EntryInside.{ForallGrows, ForallsEntered, ForallNumbersStand}
+use Rattle.formula_table.proofs.InOrderLemmas.{index-push, index-last}
+
+-- the triggers with one more
+pub numbered-push : (forall place : ℕ) (triggers : List Trigger) (trigger : Trigger) → numbered forall place (triggers ++ trigger ∷ []) ≡ numbered forall place triggers ++ placed forall (place + length triggers) trigger ∷ []
+numbered-push forall place [] trigger = let same : place + 0 ≡ place = omega arith in ap (λ (k : ℕ). placed forall k trigger ∷ []) (sym same)
+numbered-push forall place (t ∷ triggers) trigger =
+    let same : (place + 1) + length triggers ≡ place + suc (length triggers) = omega arith in
+    ap (λ (rest : List Trigger). placed forall place t ∷ rest) (numbered-push forall (place + 1) triggers trigger ∙ ap (λ (k : ℕ). numbered forall (place + 1) triggers ++ placed forall k trigger ∷ []) same)
+
+-- a trigger among the numbered ones
+numbered_at : (forall place : ℕ) (triggers : List Trigger) (n : ℕ) (trigger : Trigger) → slice_get (numbered forall place triggers) n ≡ Some trigger → (old : Trigger) × (slice_get triggers n ≡ Some old) × (trigger ≡ placed forall (place + n) old)
+numbered_at forall place [] n trigger at = absurd (none-some trigger at)
+numbered_at forall place (t ∷ triggers) zero trigger at = let same : place ≡ place + 0 = omega arith in (t, refl, sym (same_Some (placed forall place t) trigger at) ∙ ap (λ (k : ℕ). placed forall k t) same)
+numbered_at forall place (t ∷ triggers) (suc n) trigger at =
+    let rest = numbered_at forall (place + 1) triggers n trigger at in
+    let same : (place + 1) + n ≡ place + suc n = omega arith in
+    (rest.0, rest.1, rest.2 ∙ ap (λ (k : ℕ). placed forall k rest.0) same)
+
+occurs_placed : (forall place : ℕ) (trigger : Trigger) {start row : ℕ} {path : List ℕ} → Occurs trigger start path row → Occurs (placed forall place trigger) start path row
+occurs_placed forall place trigger (at_root at) = at_root at
+occurs_placed forall place trigger (below above at part) = below (occurs_placed forall place trigger above) at part
+
+valid_placed : (forall place : ℕ) (trigger : Trigger) → IsValid trigger → IsValid (placed forall place trigger)
+valid_placed forall place trigger valid = record {
+  earlier = valid.earlier;
+  few_parts = valid.few_parts;
+  once = valid.once;
+  roots = valid.roots;
+  some_root = valid.some_root;
+  few_roots = valid.few_roots;
+  reached = λ row stands. let r = valid.reached row stands in (r.0, r.1, occurs_placed forall place trigger r.2);
+  small = valid.small;
+  few_variables = valid.few_variables;
+  below = valid.below;
+  occur = valid.occur;
+}
+
+-- a forall of a shape is one of the table
+pub IsForallOf-table_forall : (number : ℕ) (new : ShapeForall) → new.variables ≤ 32 → All (FitsTrigger new.variables) new.triggers → IsForallOf number (table_forall number new)
+IsForallOf-table_forall number new few fit = record {
+  few_variables = few;
+  triggers = λ place trigger at.
+      let old = numbered_at number 0 new.triggers place trigger at in
+      let fits = All-slice_get (FitsTrigger new.variables) new.triggers place old.0 fit old.1 in
+      let here : 0 + place ≡ place = omega arith in
+      subst (IsTriggerOf number place new.variables) (sym old.2)
+      (record {
+        valid = valid_placed number (0 + place) old.0 fits.valid;
+        forall_is = refl;
+        place_is = here;
+        variables_are = fits.variables_are;
+      });
+}
+
+-- no further foralls
+pub with_foralls_none : (table : Formulas) → with_foralls [] table ≡ table
+with_foralls_none table = ap (λ (foralls : List TableForall). record table { foralls = foralls }) (append-nil table.foralls)
+
+-- the first foralls were entered
+pub record ForallsSoFar (formula : Formula) (old now : Formulas) (numbers : List ℕ) (n : ℕ) : Type 0 where
+  pub added : List TableForall
+  pub enters : EntersForalls formula old.foralls added numbers
+  pub now_is : now ≡ with_foralls added old
+  pub count : length numbers ≡ n
+
+pub foralls_none : (formula : Formula) (old : Formulas) → ForallsSoFar formula old old [] 0
+foralls_none formula old = record {
+  added = [];
+  enters = record {
+    reached = [];
+    all = record { rising = λ i j d a b. absurd (omega (arith, b)); exact = λ n. (λ c. absurd (no_element n c), λ p. absurd (omega (arith, p.0))) };
+    count = refl;
+    each = λ k index forall at. absurd (none-some index at);
+  };
+  now_is = sym (with_foralls_none old);
+  count = refl;
+}
+  where
+    no_element : (n : ℕ) → Contains {X = ℕ} [] n → ⊥
+    no_element n c = none-some n (place_from_Contains [] n c).1
+
+module _ (formula : Formula) (old now : Formulas) (numbers : List ℕ) (number n : ℕ) (so : ForallsSoFar formula old now numbers n) where
+  -- the number of an earlier forall stays
+  old_number : (index : ℕ) → index < length numbers → slice_index (numbers ++ number ∷ []) index ≡ slice_index numbers index
+  old_number index within = index-push numbers number index within
+
+  last_number : slice_index (numbers ++ number ∷ []) n ≡ number
+  last_number = ap (slice_index (numbers ++ number ∷ [])) (sym so.count) ∙ index-last numbers number
+
+  below_now : length (numbers ++ number ∷ []) ≡ length numbers + 1
+  below_now = length-append numbers (number ∷ [])
+
+  -- a forall that isn't reached adds nothing
+  pub foralls_unreached : (ReachesForall formula n → ⊥) → ForallsSoFar formula old now (numbers ++ number ∷ []) (n + 1)
+  foralls_unreached not = record {
+    added = so.added;
+    enters = record {
+      reached = so.enters.reached;
+      all = record {
+        rising = so.enters.all.rising;
+        exact = λ index. (
+            λ c. let was = (so.enters.all.exact index).0 c in (omega (arith, was.0, below_now), was.1),
+            λ p. (so.enters.all.exact index).1 (⊎_elim (λ earlier. earlier) (λ not_earlier. let here : index ≡ n = omega (arith, p.0, below_now, so.count) in absurd (not (subst (ReachesForall formula) here p.1))) (cases_lt index (length numbers)), p.1),
+          );
+      };
+      count = so.enters.count;
+      each = λ k index forall thing at.
+          let was = so.enters.each k index forall thing at in
+          let within = ((so.enters.all.exact index).0 (Contains-slice_get so.enters.reached k index thing)).0 in
+          (old_number index within ∙ was.0, was.1);
+    };
+    now_is = so.now_is;
+    count = omega (arith, below_now, so.count);
+  }
+
+  -- a reached forall is put last
+  pub foralls_reached : (forall : ShapeForall) (after : Formulas) → ReachesForall formula n → slice_get formula.foralls n ≡ Some forall → after ≡ with_foralls (table_forall (length now.foralls) forall ∷ []) now → number ≡ length now.foralls → ForallsSoFar formula old after (numbers ++ number ∷ []) (n + 1)
+  foralls_reached forall after reach at after_is number_is =
+      let now_foralls : now.foralls ≡ old.foralls ++ so.added = ap (λ (table : Formulas). table.foralls) so.now_is in
+      let place : length now.foralls ≡ length old.foralls + length so.added = ap length now_foralls ∙ length-append old.foralls so.added in
+      let new = table_forall (length now.foralls) forall in
+      record {
+        added = so.added ++ new ∷ [];
+        enters = record {
+          reached = so.enters.reached ++ n ∷ [];
+          all = record {
+            rising = all_pairs_push (λ a b. a < b) so.enters.reached n so.enters.all.rising
+                (λ k d within. let was = (so.enters.all.exact (get_or so.enters.reached k d)).0 (Contains-slice_get so.enters.reached k (get_or so.enters.reached k d) (slice_get-get_or so.enters.reached k d within)) in omega (arith, was.0, so.count));
+            exact = λ index. (
+                λ c. ⊎_elim
+                    (λ old_one. let was = (so.enters.all.exact index).0 old_one in (omega (arith, was.0, below_now), was.1))
+                    (λ new_one. (omega (arith, new_one, below_now, so.count), subst (ReachesForall formula) new_one reach))
+                    (Contains-push_cases so.enters.reached n index c),
+                λ p. ⊎_elim
+                    (λ earlier. Contains-append_left so.enters.reached (n ∷ []) index ((so.enters.all.exact index).1 (earlier, p.1)))
+                    (λ not_earlier. let here : index ≡ n = omega (arith, p.0, below_now, so.count) in subst (Contains (so.enters.reached ++ n ∷ [])) (sym here) (Contains-push so.enters.reached n))
+                    (cases_lt index (length numbers)),
+              );
+          };
+          count = omega (arith, length-append so.enters.reached (n ∷ []), length-append so.added (new ∷ []), so.enters.count);
+          each = λ k index found thing here. ⊎_elim
+              (λ old_thing.
+              let was = so.enters.each k index found old_thing here in
+              let within = ((so.enters.all.exact index).0 (Contains-slice_get so.enters.reached k index old_thing)).0 in
+              (old_number index within ∙ was.0, slice_get-append_left so.added (new ∷ []) k (table_forall (length old.foralls + k) found) was.1))
+              (λ new_thing.
+              let at_place : k ≡ length so.added = new_thing.0 ∙ so.enters.count in
+              let same : found ≡ forall = same_Some found forall (sym here ∙ ap (slice_get formula.foralls) new_thing.1 ∙ at) in
+              let count : length now.foralls ≡ length old.foralls + k = omega (arith, place, at_place) in (
+                ap (slice_index (numbers ++ number ∷ [])) new_thing.1 ∙ last_number ∙ number_is ∙ count,
+                ap (slice_get (so.added ++ new ∷ [])) at_place ∙ slice_get-push so.added new ∙ ap Some (ap (table_forall (length now.foralls)) (sym same) ∙ ap (λ (m : ℕ). table_forall m found) count),
+              ))
+              (push_cases so.enters.reached n k index thing);
+        };
+        now_is = after_is ∙ ap (λ (table : Formulas). with_foralls (new ∷ []) table) so.now_is ∙ ap (λ (foralls : List TableForall). record old { foralls = foralls }) (append_assoc old.foralls so.added (new ∷ []));
+        count = omega (arith, below_now, so.count);
+      }
+
+-- the next forall was entered or is not reached
+pub foralls_next : (formula : Formula) (old now after : Formulas) (numbers : List ℕ) (number n : ℕ) (reached : Bool) → ForallsSoFar formula old now numbers n → (reached ≡ true ↔ ReachesForall formula n) → ForallGrows formula n reached now after number → ForallsSoFar formula old after (numbers ++ number ∷ []) (n + 1)
+foralls_next formula old now after numbers number n false so reach grows = subst (λ (table : Formulas). ForallsSoFar formula old table (numbers ++ number ∷ []) (n + 1)) (sym grows) (foralls_unreached formula old now numbers number n so (λ r. absurd (true≢false (sym (reach.1 r)))))
+foralls_next formula old now after numbers number n true so reach grows = foralls_reached formula old now numbers number n so grows.0 after (reach.0 refl) grows.1 grows.2 grows.3
+
+-- further foralls grow a table
+pub foralls_grow : (formula : Formula) (old now : Formulas) (numbers : List ℕ) (n : ℕ) → ForallsSoFar formula old now numbers n → GrowsTable old now
+foralls_grow formula old now numbers n so = subst (GrowsTable old) (sym so.now_is) (record { more_nodes = []; more_foralls = so.added; nodes_are = sym (append-nil old.nodes); foralls_are = refl; limit_is = refl })
+
+-- the numbers of reached foralls are those of foralls of the table
+pub foralls_stand : (formula : Formula) (old new : Formulas) (numbers : List ℕ) → ForallsEntered formula old new numbers → ForallNumbersStand formula new numbers
+foralls_stand formula old new numbers entered index within reach =
+    let enters = entered.grow.enters in
+    let place = place_from_Contains enters.reached index ((enters.all.exact index).1 (omega (arith, within, entered.grow.all), reach)) in
+    let forall = element_at formula.foralls index within in
+    let has = enters.each place.0 index forall.0 place.1 forall.1 in
+    let below_count = slice_get_within enters.reached place.0 index place.1 in
+    let count : length new.foralls ≡ length old.foralls + length entered.added = ap (λ (table : Formulas). length table.foralls) entered.new_is ∙ length-append old.foralls entered.added in
+    omega (arith, has.0, below_count, enters.count, count)
+
+-- the foralls were entered, and grow the table
+pub entered_grows : (formula : Formula) (old new : Formulas) (numbers : List ℕ) → ForallsEntered formula old new numbers → GrowsTable old new
+entered_grows formula old new numbers entered = subst (GrowsTable old) (sym entered.new_is) (record { more_nodes = []; more_foralls = entered.added; nodes_are = sym (append-nil old.nodes); foralls_are = refl; limit_is = refl })
