@@ -7,3 +7,4 @@ pub mod Reach
 pub mod ReachLaws
 pub mod Draft
 pub mod DraftInside
+pub mod DraftLaws

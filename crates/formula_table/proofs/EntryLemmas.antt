@@ -1,5 +1,5 @@
 -- How rows are entered, one after another.
-use Rattle.std.proofs.Common.{◌≡◌, ℕ, zero, suc, ◌+◌, ◌<◌, ◌↔◌, List, [], ◌∷◌, ◌++◌, length, slice_get, Some, Result, Ok, Err, IfOk, IfErr, refl, sym, ap, subst, ◌∙◌, inl, inr, ⊎_elim, append-nil, append_assoc, arith}
+use Rattle.std.proofs.Common.{◌≡◌, ℕ, ◌+◌, ◌<◌, ◌↔◌, List, [], ◌∷◌, ◌++◌, length, slice_get, Some, Result, Ok, Err, IfOk, IfErr, refl, sym, ap, subst, ◌∙◌, inl, inr, ⊎_elim, append-nil, append_assoc, arith}
 use Rattle.std.specs.Prelude.{slice_index, IsErrAnd}
 use Rattle.std.proofs.lemmas.Bool.{cases_lt}
 use Rattle.std.proofs.lemmas.List.{length-append}
@@ -17,7 +17,7 @@ use Rattle.formula_shape.specs.ReachLaws.{row_stands}
 use Rattle.formula_shape.specs.Draft.{Formula, IsFormula}
 use Rattle.formula_table.specs.InOrder.{AreInOrder, IsFullFor, PutsNext}
 use Rattle.formula_table.specs.InOrder.PutsNext.{nothing, put_last, stood}
-use Rattle.formula_table.specs.Entry.{BecomesRow, EntersRows, entered_row, FillsTerms, LacksMemory}
+use Rattle.formula_table.specs.Entry.{BecomesRow, EntersRows, entered_row, LacksMemory}
 use Rattle.formula_table.specs.declared.enter_fault.EnterFault.{EnterFault}
 use Rattle.formula_table.specs.declared.enter_fault.EnterFault.TheVariants.{TermsFull, NodesFull, Memory}
 use Rattle.formula_table.specs.EntryInside.{NumbersStand, RowGrows, StopsTerm, StopsRow, StopsRows}

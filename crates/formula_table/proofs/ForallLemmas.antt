@@ -1,5 +1,5 @@
 -- How foralls are entered, one after another.
-use Rattle.std.proofs.Common.{◌≡◌, ℕ, zero, suc, ◌+◌, ◌<◌, ◌≤◌, ◌⊎◌, ◌↔◌, Bool, true, false, List, [], ◌∷◌, ◌++◌, length, get_or, slice_get, Option, Some, None, All, AllPairs, Contains, refl, sym, ap, subst, ◌∙◌, inl, inr, ⊎_elim, append-nil, append_assoc, arith, true≢false}
+use Rattle.std.proofs.Common.{◌≡◌, ℕ, zero, suc, ◌+◌, ◌<◌, ◌≤◌, ◌↔◌, Bool, true, false, List, [], ◌∷◌, ◌++◌, length, get_or, slice_get, Some, All, Contains, refl, sym, ap, subst, ◌∙◌, ⊎_elim, append-nil, append_assoc, arith, true≢false}
 use Rattle.std.specs.Prelude.{slice_index}
 use Rattle.std.proofs.lemmas.Bool.{cases_lt}
 use Rattle.std.proofs.lemmas.List.{length-append}
@@ -7,7 +7,6 @@ use Rattle.std.proofs.lemmas.List.Elements.{Contains-push, Contains-push_cases, 
 use Rattle.std.proofs.lemmas.List.Quantifiers.{all_pairs_push}
 use Rattle.std.proofs.lemmas.Option.{none-some, same_Some, slice_get_within, slice_get-get_or}
 use Rattle.term_table.specs.declared.trigger.Trigger.{Trigger}
-use Rattle.term_table.specs.Questions.{AreAll}
 use Rattle.term_table.specs.Trigger.{IsValid, Occurs}
 use Rattle.term_table.specs.Trigger.Occurs.{at_root, below}
 use Rattle.term_table.specs.ListLaws.{All-slice_get, element_at, slice_get-append_left, slice_get-push, push_cases, place_from_Contains, Contains-slice_get}
@@ -118,9 +117,9 @@ module _ (formula : Formula) (old now : Formulas) (numbers : List ℕ) (number n
       all = record {
         rising = so.enters.all.rising;
         exact = λ index. (
-            λ c. let was = (so.enters.all.exact index).0 c in (omega (arith, was.0, below_now), was.1),
-            λ p. (so.enters.all.exact index).1 (⊎_elim (λ earlier. earlier) (λ not_earlier. let here : index ≡ n = omega (arith, p.0, below_now, so.count) in absurd (not (subst (ReachesForall formula) here p.1))) (cases_lt index (length numbers)), p.1),
-          );
+          λ c. let was = (so.enters.all.exact index).0 c in (omega (arith, was.0, below_now), was.1),
+          λ p. (so.enters.all.exact index).1 (⊎_elim (λ earlier. earlier) (λ not_earlier. let here : index ≡ n = omega (arith, p.0, below_now, so.count) in absurd (not (subst (ReachesForall formula) here p.1))) (cases_lt index (length numbers)), p.1),
+        );
       };
       count = so.enters.count;
       each = λ k index forall thing at.
@@ -146,15 +145,15 @@ module _ (formula : Formula) (old now : Formulas) (numbers : List ℕ) (number n
             rising = all_pairs_push (λ a b. a < b) so.enters.reached n so.enters.all.rising
                 (λ k d within. let was = (so.enters.all.exact (get_or so.enters.reached k d)).0 (Contains-slice_get so.enters.reached k (get_or so.enters.reached k d) (slice_get-get_or so.enters.reached k d within)) in omega (arith, was.0, so.count));
             exact = λ index. (
-                λ c. ⊎_elim
-                    (λ old_one. let was = (so.enters.all.exact index).0 old_one in (omega (arith, was.0, below_now), was.1))
-                    (λ new_one. (omega (arith, new_one, below_now, so.count), subst (ReachesForall formula) new_one reach))
-                    (Contains-push_cases so.enters.reached n index c),
-                λ p. ⊎_elim
-                    (λ earlier. Contains-append_left so.enters.reached (n ∷ []) index ((so.enters.all.exact index).1 (earlier, p.1)))
-                    (λ not_earlier. let here : index ≡ n = omega (arith, p.0, below_now, so.count) in subst (Contains (so.enters.reached ++ n ∷ [])) (sym here) (Contains-push so.enters.reached n))
-                    (cases_lt index (length numbers)),
-              );
+              λ c. ⊎_elim
+                  (λ old_one. let was = (so.enters.all.exact index).0 old_one in (omega (arith, was.0, below_now), was.1))
+                  (λ new_one. (omega (arith, new_one, below_now, so.count), subst (ReachesForall formula) new_one reach))
+                  (Contains-push_cases so.enters.reached n index c),
+              λ p. ⊎_elim
+                  (λ earlier. Contains-append_left so.enters.reached (n ∷ []) index ((so.enters.all.exact index).1 (earlier, p.1)))
+                  (λ not_earlier. let here : index ≡ n = omega (arith, p.0, below_now, so.count) in subst (Contains (so.enters.reached ++ n ∷ [])) (sym here) (Contains-push so.enters.reached n))
+                  (cases_lt index (length numbers)),
+            );
           };
           count = omega (arith, length-append so.enters.reached (n ∷ []), length-append so.added (new ∷ []), so.enters.count);
           each = λ k index found thing here. ⊎_elim

@@ -1,11 +1,10 @@
 -- How things become items, one after another.
-use Rattle.std.proofs.Common.{◌≡◌, ℕ, zero, suc, ◌+◌, ◌<◌, ◌⊎◌, ◌↔◌, List, [], ◌∷◌, ◌++◌, length, map, get_or, slice_get, Some, All, AllPairs, Contains, refl, sym, ap, ap₂, subst, ◌∙◌, inl, inr, ⊎_elim, append-nil, append_assoc, arith}
+use Rattle.std.proofs.Common.{◌≡◌, ℕ, zero, suc, ◌+◌, ◌<◌, ◌⊎◌, ◌↔◌, List, [], ◌∷◌, ◌++◌, length, map, get_or, slice_get, Some, All, refl, sym, ap, ap₂, subst, ◌∙◌, inl, inr, ⊎_elim, append-nil, append_assoc, arith}
 use Rattle.std.specs.Prelude.{slice_index}
 use Rattle.std.proofs.lemmas.Bool.{cases_lt}
 use Rattle.std.proofs.lemmas.List.{length-append}
-use Rattle.std.proofs.lemmas.List.Elements.{All-contains, Contains-push}
 use Rattle.std.proofs.lemmas.List.Quantifiers.{all_pairs_push}
-use Rattle.std.proofs.lemmas.Option.{none-some, same_Some, slice_get_within, slice_get-get_or}
+use Rattle.std.proofs.lemmas.Option.{none-some, slice_get_within, slice_get-get_or}
 use Rattle.term_table.specs.ListLaws.{slice_get-append_left, slice_get-push, push_cases, element_at}
 use Rattle.formula_table.specs.InOrder.{AreInOrder, StandsNowhere, PutsNext}
 use Rattle.formula_table.specs.InOrder.PutsNext.{nothing, put_last, stood}
@@ -86,15 +85,15 @@ module _ {X : Type 0} (Becomes Later : ℕ → X → Type 0) (items : List X) (l
         count = omega (arith, length-append is.things (before ∷ []), length-append added (x ∷ []), is.count);
         each = λ k n y thing item. ⊎_elim
             (λ old. ⊎_elim
-                (λ old_item. let was = is.each k n y old old_item in (omega (arith, was.0), (same n y (omega (arith, was.0))).0 was.1))
-                (λ new_item. absurd (omega (arith, slice_get_within is.things k n old, is.count, new_item.0)))
-                (push_cases added x k y item))
+            (λ old_item. let was = is.each k n y old old_item in (omega (arith, was.0), (same n y (omega (arith, was.0))).0 was.1))
+            (λ new_item. absurd (omega (arith, slice_get_within is.things k n old, is.count, new_item.0)))
+            (push_cases added x k y item))
             (λ fresh. ⊎_elim
-                (λ old_item. absurd (omega (arith, slice_get_within added k y old_item, is.count, fresh.0)))
-                (λ new_item.
-                let below : n < before + 1 = omega (arith, fresh.1) in
-                (below, (same n y below).0 (subst (λ (m : ℕ). Becomes m y) (sym fresh.1) (subst (λ (z : X). Becomes before z) (sym new_item.1) becomes))))
-                (push_cases added x k y item))
+            (λ old_item. absurd (omega (arith, slice_get_within added k y old_item, is.count, fresh.0)))
+            (λ new_item.
+            let below : n < before + 1 = omega (arith, fresh.1) in
+            (below, (same n y below).0 (subst (λ (m : ℕ). Becomes m y) (sym fresh.1) (subst (λ (z : X). Becomes before z) (sym new_item.1) becomes))))
+            (push_cases added x k y item))
             (push_cases is.things before k n thing);
         once = λ i j y at_i at_j behind.
             let here_i = subst (λ (list : List X). slice_get list i ≡ Some y) grown at_i in

@@ -5,3 +5,4 @@ pub mod InOrderLemmas
 pub mod EntryLemmas
 pub mod ForallLemmas
 pub mod NodeLemmas
+pub mod TestLemmas

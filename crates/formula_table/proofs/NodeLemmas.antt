@@ -1,5 +1,5 @@
 -- How nodes are entered, one after another.
-use Rattle.std.proofs.Common.{◌≡◌, ℕ, zero, suc, ◌+◌, ◌<◌, ◌≤◌, ◌↔◌, min, max, List, [], ◌∷◌, ◌++◌, length, map, slice_get, Option, Some, None, All, Contains, refl, sym, ap, subst, ◌∙◌, ⊎_elim, append-nil, append_assoc, arith}
+use Rattle.std.proofs.Common.{◌≡◌, ℕ, ◌+◌, ◌<◌, ◌↔◌, List, [], ◌∷◌, ◌++◌, length, slice_get, Option, Some, None, All, Contains, refl, sym, ap, subst, ◌∙◌, ⊎_elim, append-nil, append_assoc, arith}
 use Rattle.std.specs.Prelude.{slice_index}
 use Rattle.std.specs.Option.{option_map}
 use Rattle.std.proofs.lemmas.Bool.{cases_lt}
@@ -9,7 +9,7 @@ use Rattle.std.proofs.lemmas.Option.{none-some, same_Some}
 use Rattle.term_table.specs.ListLaws.{element_at}
 use Rattle.formula_shape.specs.declared.shape_node.ShapeNode.{ShapeNode}
 use Rattle.formula_shape.specs.declared.shape_node.ShapeNode.TheVariants.{Equal, Atom, And, Or, Forall}
-use Rattle.formula_shape.specs.ShapeNode.{rows_of, parts_of, foralls_of}
+use Rattle.formula_shape.specs.ShapeNode.{parts_of, foralls_of}
 use Rattle.formula_shape.specs.Items.{with_item}
 use Rattle.formula_shape.specs.ItemLaws.{put_cases}
 use Rattle.formula_shape.specs.SameLaws.{found_at, absent}
@@ -26,7 +26,7 @@ use Rattle.formula_table.specs.Node.{same_entered}
 use Rattle.formula_table.specs.Formulas.{Formulas, FitsTable, GrowsTable, RefusesEntered, with_entered}
 use Rattle.formula_table.specs.InOrder.{AreInOrder, IsFullFor, PutsNext}
 use Rattle.formula_table.specs.InOrder.PutsNext.{put_last, stood}
-use Rattle.formula_table.specs.Entry.{entered_node, BecomesNode, EntersNodes, ReachesForall, TableGrows, StopsTable}
+use Rattle.formula_table.specs.Entry.{entered_node, BecomesNode, EntersNodes, TableGrows, StopsTable}
 use Rattle.formula_table.specs.EntryInside.{ForallsEntered, ForallNumbersStand, NodeNumbersStand, NodeGrows, StopsNode, NodesEntered, StopsNodes}
 use Rattle.formula_table.proofs.Same.{entered_told}
 use Rattle.formula_table.proofs.InOrderLemmas.{none_in_order, next_in_order, map_index-push, index-push, index-last}

@@ -1,6 +1,6 @@
 -- Entered nodes are the same where their keys are.
-use Rattle.std.proofs.Common.{◌≡◌, ℕ, zero, suc, ◌+◌, Bool, true, false, cond, ◌&&◌, nat_eq, List, [], ◌∷◌, ◌++◌, get_or, slice_get, Some, None, refl, sym, ap, ap₂, subst, ◌∙◌, ⊎_elim, arith, true≢false}
-use Rattle.std.specs.Cmp.Lexicographic.{pointwise, bytes_decides}
+use Rattle.std.proofs.Common.{◌≡◌, ◌&&◌, nat_eq, get_or, refl, ap, ap₂, arith}
+use Rattle.std.specs.Cmp.Lexicographic.{pointwise}
 use Rattle.formula_shape.specs.ShapeNode.{sign_of}
 use Rattle.formula_shape.specs.SameLaws.{Tells, tells_by_keys, and_true, sign_from}
 use Rattle.formula_table.specs.declared.node.Node.{Node}

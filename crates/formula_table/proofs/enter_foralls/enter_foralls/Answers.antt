@@ -1,6 +1,6 @@
-use Rattle.std.proofs.Common.{◌≡◌, ◌<◌, ◌+◌, ◌++◌, ◌∷◌, [], ℕ, List, length, slice_get, get_or, Some, false, true, sym, ap, subst, ◌∙◌, arith}
+use Rattle.std.proofs.Common.{◌<◌, ◌+◌, ◌++◌, ◌∷◌, [], ℕ, List, length, get_or, Some, false, sym, ap, subst, ◌∙◌, arith}
 use Rattle.std.proofs.lemmas.Option.{slice_get-get_or, same_Some}
-use Rattle.formula_table.specs.Formulas.{Formulas, GrowsTable}
+use Rattle.formula_table.specs.Formulas.{GrowsTable}
 use Rattle.formula_table.proofs.ForallLemmas.{ForallsSoFar, foralls_none, foralls_next, foralls_grow}
 use Rattle.formula_table.proofs.enter_foralls.enter_foralls.Goals as goal
 

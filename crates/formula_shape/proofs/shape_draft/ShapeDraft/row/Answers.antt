@@ -1,11 +1,11 @@
-use Rattle.std.proofs.Common.{ℕ, List, length, sym, ap, subst, ◌∙◌, arith}
+use Rattle.std.proofs.Common.{ℕ, List, sym, ap, subst, ◌∙◌, arith}
 use Rattle.std.specs.Option.{option_map}
 use Rattle.std.specs.Map.{values_of}
 use Rattle.std.proofs.lemmas.Map.Entries.{length-values_of}
 use Rattle.formula_shape.specs.declared.shape_row.ShapeRow.{ShapeRow}
 use Rattle.formula_shape.specs.Items.{with_item, same_key, Puts}
 use Rattle.formula_shape.specs.ShapeRow.{same_row, row_key}
-use Rattle.formula_shape.specs.Draft.{Draft, with_row}
+use Rattle.formula_shape.specs.Draft.{with_row}
 use Rattle.formula_shape.specs.DraftInside.{draft_of}
 use Rattle.formula_shape.specs.ItemLaws.{item_put, item_full, AreKeyed-put, within-put}
 use Rattle.formula_shape.specs.SameLaws.{row_by_keys}
