@@ -6,15 +6,15 @@ use Rattle.std.proofs.lemmas.Bool.{cases_lt}
 use Rattle.std.proofs.lemmas.List.{take-append-le, take_all}
 use Rattle.em_outside.specs.declared.limits.Limits.{Limits}
 use Rattle.smt_text.specs.Bytes.{is_stray, is_white}
-use Rattle.smt_text.specs.Lexicon.{first_lexeme}
+use Rattle.smt_text.specs.Lexicon.{lexeme, comment_from}
 use Rattle.smt_text.specs.Word.{Word}
 use Rattle.smt_text.specs.Script.{Script, read_from, script_from, past_of, after_token, after_lexeme, at_end, place_after, text_of}
 use Rattle.smt_text.specs.Partners.{kinds, opens, closes, opened, closed, span, IsWhole, AllWhole}
 use Rattle.smt_text.specs.declared.token.Kind.{Kind}
 use Rattle.smt_text.specs.declared.token.Kind.TheVariants.{Left, Right}
 use Rattle.smt_text.specs.declared.token.Place.{Place}
-use Rattle.smt_text.specs.declared.lexicon.Lexeme.{Lexeme}
-use Rattle.smt_text.specs.declared.lexicon.Lexeme.TheVariants.{Blank, Token, Ill, Comment, Cut}
+use Rattle.smt_text.specs.declared.lexeme.Lexeme.{Lexeme}
+use Rattle.smt_text.specs.declared.lexeme.Lexeme.TheVariants.{Blank, Token, Ill, Cut}
 use Rattle.smt_text.specs.PartnersLaws.{length-kinds, opened-append, closed-append}
 
 -- so many parentheses are open behind these tokens, and one or more behind each front of them
@@ -122,35 +122,28 @@ lexeme_whole deepest past rest depth words place bytes (Blank n) nests begin who
 lexeme_whole deepest past rest depth words place bytes (Token kind n) nests begin wholes =
     token_whole deepest past (λ d w. rest d w n) depth words (record { kind = kind; place = place; text = text_of kind (take n bytes) }) kind refl nests (λ none. begin none kind n refl) (λ d w. wholes d w n)
 lexeme_whole deepest past rest depth words place bytes (Ill n) nests begin wholes = tt
-lexeme_whole deepest past rest depth words place bytes Comment nests begin wholes = end_whole past words
 lexeme_whole deepest past rest depth words place bytes Cut nests begin wholes = end_whole past words
 
-not_all : (white comment paren : Bool) → white ≡ false → comment ≡ false → paren ≡ false → not (white || comment || paren) ≡ false → ⊥
-not_all true comment paren no_white no_comment no_paren may = cc
-not_all false true paren no_white no_comment no_paren may = cc
-not_all false false true no_white no_comment no_paren may = cc
-not_all false false false no_white no_comment no_paren may = cc
+-- a comment is no token
+no_token : (b : Bool) (m : ℕ) (l : Lexeme) (kind : Kind) (n : ℕ) → (l ≡ Token kind n → ⊥) → cond b (Blank m) l ≡ Token kind n → ⊥
+no_token true m l kind n none is = cc
+no_token false m l kind n none is = none is
 
-blank_or_left : (white paren : Bool) (other : Lexeme) (kind : Kind) (n : ℕ) → (white ≡ false → paren ≡ false → ⊥) → cond white (Blank 1) (cond paren (Token Left 1) other) ≡ Token kind n → kind ≡ Left
-blank_or_left true paren other kind n neither is = cc
-blank_or_left false true other kind n neither is = cc
-blank_or_left false false other kind n neither is = absurd (neither refl refl)
-
-white_or_left : (b : ℕ) (bytes : List ℕ) (kind : Kind) (n : ℕ) → (is_white b ≡ false → (b == 40) ≡ false → ⊥) → first_lexeme (b ∷ bytes) ≡ Token kind n → kind ≡ Left
-unfolding first_lexeme
-white_or_left b bytes kind n neither is = blank_or_left (is_white b) (b == 40) _ kind n neither is
-
-ill_no_token : (kind : Kind) (n : ℕ) → Ill 0 ≡ Token kind n → ⊥
-ill_no_token kind n is = cc
-
-no_comment : (bytes : List ℕ) (kind : Kind) (n : ℕ) → first_lexeme (59 ∷ bytes) ≡ Token kind n → ⊥
-unfolding first_lexeme
-no_comment bytes kind n is = ill_no_token kind n is
+comment_no_token : (m : ℕ) (bytes : List ℕ) (kind : Kind) (n : ℕ) → comment_from m bytes ≡ Token kind n → ⊥
+comment_no_token m [] kind n is = cc
+comment_no_token m (b ∷ bytes) kind n is = no_token (b == 10 || b == 13) m (comment_from (m + 1) bytes) kind n (comment_no_token (m + 1) bytes kind n) is
 
 -- what may stand between commands is no token but the parenthesis that opens one
-opens_one : (b : ℕ) (bytes : List ℕ) (comment : Bool) → (b == 59) ≡ comment → is_stray b ≡ false → (kind : Kind) (n : ℕ) → first_lexeme (b ∷ bytes) ≡ Token kind n → kind ≡ Left
-opens_one b bytes true comment may kind n is = absurd (no_comment bytes kind n (subst (λ (c : ℕ). first_lexeme (c ∷ bytes) ≡ Token kind n) (grind (arith, nat_tests, comment)) is))
-opens_one b bytes false comment may kind n is = white_or_left b bytes kind n (λ white paren. not_all (is_white b) (b == 59) (b == 40) white comment paren may) is
+left_alone : (white comment paren : Bool) (c other : Lexeme) (kind : Kind) (n : ℕ) → not (white || comment || paren) ≡ false → (c ≡ Token kind n → ⊥)
+    → cond white (Blank 1) (cond comment c (cond paren (Token Left 1) other)) ≡ Token kind n → kind ≡ Left
+left_alone true comment paren c other kind n may none is = cc
+left_alone false true paren c other kind n may none is = absurd (none is)
+left_alone false false true c other kind n may none is = cc
+left_alone false false false c other kind n may none is = cc
+
+opens_one : (b : ℕ) (bytes : List ℕ) → is_stray b ≡ false → (kind : Kind) (n : ℕ) → lexeme (b ∷ bytes) ≡ Token kind n → kind ≡ Left
+unfolding lexeme
+opens_one b bytes may kind n is = left_alone (is_white b) (b == 59) (b == 40) (comment_from 1 bytes) _ kind n may (comment_no_token 1 bytes kind n) is
 
 from_whole : (deepest : ℕ) (past : Option Place) (bytes : List ℕ) (depth : ℕ) (words : List Word) (skip : ℕ) (place : Place)
     → Nests depth (kinds words) → AllWhole (read_from deepest past depth words skip place bytes)
@@ -159,8 +152,8 @@ from_whole deepest past [] depth words skip place nests = end_whole past words
 from_whole deepest past (b ∷ bytes) depth words (suc skip) place nests = from_whole deepest past bytes depth words skip (place_after place b) nests
 from_whole deepest past (b ∷ bytes) depth words zero place nests =
     cond_whole (depth == 0 && is_stray b) _ _ (λ _. tt) (λ may.
-    lexeme_whole deepest past (λ d w n. read_from deepest past d w (pred n) (place_after place b) bytes) depth words place (b ∷ bytes) (first_lexeme (b ∷ bytes)) nests
-    (λ none. opens_one b bytes (b == 59) refl (no_stray none may)) (λ d w n. from_whole deepest past bytes d w (pred n) (place_after place b)))
+    lexeme_whole deepest past (λ d w n. read_from deepest past d w (pred n) (place_after place b) bytes) depth words place (b ∷ bytes) (lexeme (b ∷ bytes)) nests
+    (λ none. opens_one b bytes (no_stray none may)) (λ d w n. from_whole deepest past bytes d w (pred n) (place_after place b)))
   where
     no_stray : depth ≡ 0 → (depth == 0 && is_stray b) ≡ false → is_stray b ≡ false
     no_stray none may = subst (λ (d : ℕ). (d == 0 && is_stray b) ≡ false) none may

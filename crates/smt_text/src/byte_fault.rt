@@ -1,8 +1,8 @@
 //! The faults that bytes can have as a script.
 ghost use Rattle.std.specs.Prelude.{◌≡◌};
-ghost use Rattle.smt_text.specs.ByteFault.{place_of};
+ghost use Rattle.smt_text.specs.ByteFault.{place_of, text_fault};
 
-use crate::Place;
+use crate::{Place, TextFault};
 
 /// Why bytes are no script, and at which byte. The lowest byte decides which fault is first.
 #[derive(Clone, Copy, Debug, PartialEq, Eq)]
@@ -30,6 +30,18 @@ impl ByteFault {
             | ByteFault::Stray { place }
             | ByteFault::TooDeep { place }
             | ByteFault::TooLong { place } => *place,
+        }
+    }
+    /// The same as a reader answers it.
+    pub(crate) fn text_fault(self) -> TextFault
+        ensures { result ≡ text_fault self }
+    {
+        match self {
+            ByteFault::BadByte { place } => TextFault::BadByte { place },
+            ByteFault::Unclosed { place } => TextFault::Unclosed { place },
+            ByteFault::Stray { place } => TextFault::Stray { place },
+            ByteFault::TooDeep { place } => TextFault::TooDeep { place },
+            ByteFault::TooLong { place } => TextFault::TooLong { place },
         }
     }
 }

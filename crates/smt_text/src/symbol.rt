@@ -4,7 +4,7 @@ ghost use Rattle.std.specs.List.{list_all};
 ghost use Rattle.smt_text.specs.Bytes.{is_symbol_byte};
 ghost use Rattle.smt_text.specs.Symbols.{is_simple};
 
-use crate::lexicon::{is_digit, is_symbol_byte};
+use crate::bytes::{is_digit, is_symbol_byte};
 
 fn are_symbol_bytes(name: &[u8]) -> bool
     ensures { result ≡ list_all is_symbol_byte name.now }

@@ -7,145 +7,127 @@ use em_outside::{Limits, MemSource, Source, SureSource};
 use std::alloc::Global;
 use std::test::Fail;
 
-/// How many commands a script has, and the line and column of its first fault, or 0 and 0.
-fn outcome(
+/// How a script ends: with a fault of its bytes, or without.
+#[derive(Clone, Copy, Debug, PartialEq, Eq)]
+enum Ending {
+    End,
+    BadByte,
+    Unclosed,
+    Stray,
+    TooDeep,
+    TooLong,
+    Other,
+}
+
+/// How a script ends, and where it has its fault.
+fn ends_by(fault: TextFault) -> (Ending, u32, u32) {
+    match fault {
+        TextFault::BadByte { place } => (Ending::BadByte, place.line, place.column),
+        TextFault::Unclosed { place } => (Ending::Unclosed, place.line, place.column),
+        TextFault::Stray { place } => (Ending::Stray, place.line, place.column),
+        TextFault::TooDeep { place } => (Ending::TooDeep, place.line, place.column),
+        TextFault::TooLong { place } => (Ending::TooLong, place.line, place.column),
+        TextFault::ReadFault | TextFault::Memory => (Ending::Other, 0, 0),
+    }
+}
+
+fn letter(kind: Kind) -> u8 {
+    match kind {
+        Kind::Left => b'(',
+        Kind::Right => b')',
+        Kind::Symbol => b's',
+        Kind::Keyword => b'k',
+        Kind::Numeral => b'n',
+        Kind::Decimal => b'd',
+        Kind::Hex => b'h',
+        Kind::Binary => b'b',
+        Kind::Text => b't',
+    }
+}
+
+/// The tokens of a script, each as the letter of its kind, its text and a semicolon.
+fn listed(
     alloc: Global,
     limits: &Limits,
     script: &[u8],
     piece: usize,
-) -> Result<(u32, u32, u32), Fail>
+) -> Result<(Vec<u8>, (Ending, u32, u32)), Fail>
     requires limits { AreLawful limits.now }
     requires piece { 1 ≤ piece }
 {
     let mut source = SureSource::new(script.to_vec(alloc)?, piece);
-    let Ok(mut reader) = TreeReader::new(alloc, limits) else {
-        return Ok((9, 9, 9));
-    };
-    for count in 0..9 {
-        match reader.next_tree(&mut source) {
-            Ok(Some(_)) => {}
-            Ok(None) => return Ok((count, 0, 0)),
-            Err(TextFault::NotBuilt { place }) => return Ok((count, place.line, place.column)),
-            Err(_) => return Ok((9, 9, 9)),
-        }
-    }
-    Ok((9, 9, 9))
-}
-
-#[test]
-fn each_ill_byte_is_refused_at_its_place(rt: HostRuntime) -> Result<(), Fail> {
-    let scripts: [(&[u8], u32, u32, u32); 19] = [
-        (b"", 0, 0, 0),
-        (b"(a)\t(set-x :k 0 12)\r\n ()", 3, 0, 0),
-        (b"(~!@$%^&*_-+=<>.?/)", 1, 0, 0),
-        (b"a", 0, 1, 1),
-        (b")", 0, 1, 1),
-        (b"(a)\n;", 1, 2, 1),
-        (b"(a)\xc3", 1, 1, 4),
-        (b"(a ; b\n)", 0, 1, 4),
-        (b"(|a|)", 0, 1, 2),
-        (b"(\"a\")", 0, 1, 2),
-        (b"(#x1)", 0, 1, 2),
-        (b"(01)", 0, 1, 3),
-        (b"(1.5)", 0, 1, 3),
-        (b"(1a)", 0, 1, 3),
-        (b"(:)", 0, 1, 3),
-        (b"(:1)", 0, 1, 3),
-        (b"(a\n{)", 0, 2, 1),
-        (b"(a)\n (b (c)", 1, 2, 2),
-        (b"(a)(b", 1, 1, 4),
-    ];
-    for (script, count, line, column) in scripts {
-        for piece in [1, 64] {
-            let found = outcome(rt.alloc(), &Limits::standard(), script, piece)?;
-            assert_eq!(rt; found, (count, line, column), "of {script:?}");
-        }
-    }
-    Ok(())
-}
-
-#[test]
-fn limits_refuse_the_first_byte_and_parenthesis_past_them(rt: HostRuntime) -> Result<(), Fail> {
-    let limits = Limits {
-        bytes: 6,
-        depth: 2,
-        ..Limits::standard()
-    };
-    let scripts: [(&[u8], u32, u32, u32); 5] = [
-        (b"(a)(b)", 2, 0, 0),
-        (b"(a)(b) ", 2, 1, 7),
-        (b"(ab\n c)", 0, 2, 3),
-        (b"(())", 1, 0, 0),
-        (b"((()))", 0, 1, 3),
-    ];
-    for (script, count, line, column) in scripts {
-        for piece in [1, 64] {
-            let found = outcome(rt.alloc(), &limits, script, piece)?;
-            assert_eq!(rt; found, (count, line, column), "of {script:?}");
-        }
-    }
-    Ok(())
-}
-
-#[test]
-fn a_tree_has_its_tokens(rt: HostRuntime) -> Result<(), Fail> {
-    let alloc = rt.alloc();
-    let mut source = SureSource::new(b"(f :k 12 (g x))".to_vec(alloc)?, 1);
-    let Ok(mut reader) = TreeReader::new(alloc, &Limits::standard()) else {
-        panic!(rt; "no memory");
-    };
-    let Ok(Some(tree)) = reader.next_tree(&mut source) else {
-        panic!(rt; "no memory");
-    };
-    let mut tokens = Vec::new(alloc);
     let mut text = Vec::new(alloc);
-    for i in 0..tree.len() {
-        let token = tree.token(i);
-        tokens.push((token.kind, token.place.column, token.partner))?;
-        text.extend_from_slice(tree.bytes(i))?;
-    }
-    let want = [
-        (Kind::Left, 1, 8),
-        (Kind::Symbol, 2, 1),
-        (Kind::Keyword, 4, 2),
-        (Kind::Numeral, 7, 3),
-        (Kind::Left, 10, 7),
-        (Kind::Symbol, 11, 5),
-        (Kind::Symbol, 13, 6),
-        (Kind::Right, 14, 4),
-        (Kind::Right, 15, 0),
-    ];
-    assert_eq!(rt; tokens.as_slice(), want.as_slice());
-    assert_eq!(rt; text.as_slice(), b"(f:k12(gx))".as_slice());
-    Ok(())
-}
-
-#[test]
-fn a_fault_is_answered_again(rt: HostRuntime) -> Result<(), Fail> {
-    let alloc = rt.alloc();
-    let mut source = MemSource::new(b"(a)(b)".to_vec(alloc)?, 4, vec![in alloc; 1]?);
-    let Ok(mut reader) = TreeReader::new(alloc, &Limits::standard()) else {
-        panic!(rt; "no memory");
+    let Ok(mut reader) = TreeReader::new(alloc, limits) else {
+        return Ok((text, (Ending::Other, 0, 0)));
     };
-    assert!(rt; matches!(reader.next_tree(&mut source), Ok(Some(_))));
-    assert!(rt; matches!(reader.next_tree(&mut source), Err(TextFault::ReadFault)));
-    assert!(rt; matches!(reader.next_tree(&mut source), Err(TextFault::ReadFault)));
-    assert_eq!(rt; source.faults(), 1);
-    let place = Place { line: 2, column: 5 };
-    assert_eq!(rt; ByteFault::Stray { place }.place(), place);
-    Ok(())
+    for _ in 0..=script.len() {
+        match reader.next_tree(&mut source) {
+            Ok(Some(tree)) => {
+                for i in 0..tree.len() {
+                    text.push(letter(tree.token(i).kind))?;
+                    text.extend_from_slice(tree.bytes(i))?;
+                    text.push(b';')?;
+                }
+            }
+            Ok(None) => return Ok((text, (Ending::End, 0, 0))),
+            Err(fault) => return Ok((text, ends_by(fault))),
+        }
+    }
+    Ok((text, (Ending::Other, 0, 0)))
 }
 
 #[test]
-fn simple_symbols_need_no_bars(rt: HostRuntime) {
-    for (name, simple) in [
-        ("a", true),
-        ("<=", true),
-        ("let", true),
-        ("", false),
-        ("1a", false),
-        ("a b", false),
-    ] {
-        assert_eq!(rt; is_simple(name.as_bytes()), simple, "{name}");
+fn each_lexeme_is_read_and_each_ill_byte_refused_at_its_place(
+    rt: HostRuntime,
+) -> Result<(), Fail> {
+    let scripts: [(&[u8], &[u8], Ending, u32, u32); 40] = [
+        (b"", b"", Ending::End, 0, 0),
+        (b" \t\r\n;\xff(\n(a);b", b"((;sa;));", Ending::End, 0, 0),
+        (b"(;a)\r b;\n)", b"((;sb;));", Ending::End, 0, 0),
+        (b"(~!@$%^&*_-+=<>.?/a0)", b"((;s~!@$%^&*_-+=<>.?/a0;));", Ending::End, 0, 0),
+        (b"(a|b; (\n\"\xc3|c)", b"((;sa;sb; (\n\"\xc3;sc;));", Ending::End, 0, 0),
+        (b"(||)", b"((;s;));", Ending::End, 0, 0),
+        (b"(\"a\"\"b|;\\\"\"\"s)", b"((;ta\"b|;\\\";ss;));", Ending::End, 0, 0),
+        (b"(\"\")", b"((;t;));", Ending::End, 0, 0),
+        (b"(0 10 0.0 12.340)", b"((;n0;n10;d0.0;d12.340;));", Ending::End, 0, 0),
+        (b"(#x0aF #b01)", b"((;h#x0aF;b#b01;));", Ending::End, 0, 0),
+        (b"(:a1 :-)", b"((;k:a1;k:-;));", Ending::End, 0, 0),
+        (b"(())(1\"\")", b"((;((;));));((;n1;t;));", Ending::End, 0, 0),
+        (b"a", b"", Ending::Stray, 1, 1),
+        (b"(a))", b"((;sa;));", Ending::Stray, 1, 4),
+        (b"(a)\n\"", b"((;sa;));", Ending::Stray, 2, 1),
+        (b"(a)\xc3", b"((;sa;));", Ending::Stray, 1, 4),
+        (b"(01)", b"", Ending::BadByte, 1, 3),
+        (b"(1.)", b"", Ending::BadByte, 1, 4),
+        (b"(1..2)", b"", Ending::BadByte, 1, 4),
+        (b"(1.5.2)", b"", Ending::BadByte, 1, 5),
+        (b"(1a)", b"", Ending::BadByte, 1, 3),
+        (b"(0a)", b"", Ending::BadByte, 1, 3),
+        (b"(1.5a)", b"", Ending::BadByte, 1, 5),
+        (b"(#)", b"", Ending::BadByte, 1, 3),
+        (b"(#o1)", b"", Ending::BadByte, 1, 3),
+        (b"(#x)", b"", Ending::BadByte, 1, 4),
+        (b"(#xg)", b"", Ending::BadByte, 1, 4),
+        (b"(#b12)", b"", Ending::BadByte, 1, 5),
+        (b"(#x1g)", b"", Ending::BadByte, 1, 5),
+        (b"(\"a\n\x01\")", b"", Ending::BadByte, 2, 1),
+        (b"(\"a\x7f\")", b"", Ending::BadByte, 1, 4),
+        (b"(|a\\b|)", b"", Ending::BadByte, 1, 4),
+        (b"(|a\x00|)", b"", Ending::BadByte, 1, 4),
+        (b"(:)", b"", Ending::BadByte, 1, 3),
+        (b"(:1)", b"", Ending::BadByte, 1, 3),
+        (b"(a\n{)", b"", Ending::BadByte, 2, 1),
+        (b"(\xc3\xa9)", b"", Ending::BadByte, 1, 2),
+        (b"(a)\n (b (c)", b"((;sa;));", Ending::Unclosed, 2, 2),
+        (b"(|a)", b"", Ending::Unclosed, 1, 1),
+        (b"(\"a)\"", b"", Ending::Unclosed, 1, 1),
+    ];
+    for (script, text, found, line, column) in scripts {
+        for piece in [1, 64] {
+            let (tokens, end) = listed(rt.alloc(), &Limits::standard(), script, piece)?;
+            assert_eq!(rt; tokens.as_slice(), text, "of {script:?}");
+            assert_eq!(rt; end, (found, line, column), "of {script:?}");
+        }
     }
+    Ok(())
 }
