@@ -1,0 +1,4 @@
+pub mod Value
+pub mod Making
+pub mod Makes
+pub mod Names
