@@ -1,0 +1,3 @@
+pub mod Nodes
+pub mod Moved
+pub mod Applied

@@ -1,0 +1,33 @@
+//! What the names of a script stand for, and why a command is refused.
+#![tactic(auto)]
+
+mod arg;
+mod bound;
+mod connective;
+mod definition;
+mod entries;
+mod head;
+mod level;
+mod names;
+mod refusal;
+mod session_state;
+mod signature;
+mod stands;
+mod stop;
+mod syntax_fault;
+mod value;
+
+pub use arg::Arg;
+pub use bound::Bound;
+pub use connective::Connective;
+pub use definition::Definition;
+pub use head::Head;
+pub use level::Level;
+pub use names::{connective_of, is_reserved};
+pub use refusal::Refusal;
+pub use session_state::SessionState;
+pub use signature::Signature;
+pub use stands::Stands;
+pub use stop::Stop;
+pub use syntax_fault::SyntaxFault;
+pub use value::Value;

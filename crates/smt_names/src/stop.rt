@@ -1,0 +1,71 @@
+//! Why a step stopped.
+ghost use Rattle.std.specs.Prelude.{◌≡◌, []};
+ghost use Rattle.smt_names.specs.Makes.{StopsWith};
+
+use crate::refusal::Refusal;
+use crate::syntax_fault::SyntaxFault;
+use smt_text::Place;
+use std::alloc::{AllocError, AllocFailed, Global};
+use term_table::{Memory, Name};
+
+/// Why a step stopped.
+#[derive(Debug, Drop)]
+pub enum Stop {
+    /// Memory was refused.
+    Memory,
+    /// The command is refused.
+    Refused(SyntaxFault),
+}
+
+impl From<Memory> for Stop {
+    ghost use Rattle.smt_names.specs.declared.stop.Stop.{Stop};
+
+    ghost from_gives = { λ _ stop. stop ≡ Stop.Memory };
+
+    fn from(_memory: Memory) -> Stop {
+        Stop::Memory
+    }
+}
+
+impl From<AllocError> for Stop {
+    ghost use Rattle.smt_names.specs.declared.stop.Stop.{Stop};
+
+    ghost from_gives = { λ _ stop. stop ≡ Stop.Memory };
+
+    fn from(_refused: AllocError) -> Stop {
+        Stop::Memory
+    }
+}
+
+impl<T: Drop> From<AllocFailed<T>> for Stop {
+    ghost use Rattle.smt_names.specs.declared.stop.Stop.{Stop};
+
+    ghost from_gives = { λ _ stop. stop ≡ Stop.Memory };
+
+    fn from(_refused: AllocFailed<T>) -> Stop {
+        Stop::Memory
+    }
+}
+
+impl Stop {
+    /// A refusal that speaks of a name.
+    pub fn of_name(alloc: Global, refusal: Refusal, place: Place, name: &[u8]) -> Stop
+        ensures { StopsWith result (record { refusal = refusal; place = place; name = name.now }) }
+    {
+        match Name::from_slice(alloc, name) {
+            Ok(name) => Stop::Refused(SyntaxFault {
+                refusal,
+                place,
+                name,
+            }),
+            Err(_) => Stop::Memory,
+        }
+    }
+
+    /// A refusal that speaks of no name.
+    pub fn at(alloc: Global, refusal: Refusal, place: Place) -> Stop
+        ensures { StopsWith result (record { refusal = refusal; place = place; name = [] }) }
+    {
+        Stop::of_name(alloc, refusal, place, &[])
+    }
+}

@@ -1,0 +1,13 @@
+//! A refusal with its place.
+
+use crate::refusal::Refusal;
+use smt_text::Place;
+use term_table::Name;
+
+/// A refusal, where it comes, and the name that it speaks of. The name is empty where it speaks of none.
+#[derive(Debug, Drop)]
+pub struct SyntaxFault {
+    pub refusal: Refusal,
+    pub place: Place,
+    pub name: Name,
+}
