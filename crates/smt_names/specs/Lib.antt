@@ -2,3 +2,5 @@ pub mod Value
 pub mod Making
 pub mod Makes
 pub mod Names
+pub mod Entries
+pub mod StateInside

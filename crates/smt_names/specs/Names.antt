@@ -1,5 +1,5 @@
 -- Names, sorts, and what a name stands for.
-use Rattle.std.specs.Prelude.{◌≡◌, ℕ, zero, suc, ◌+◌, ◌-◌, ◌*◌, ◌^◌, Bool, true, false, cond, not, ◌&&◌, ◌||◌, nat_le, ◌==◌, List, [], ◌∷◌, ◌++◌, length, take, get_or, slice_get, replicate, Option, Some, None, is_some, bytes_eq, codes}
+use Rattle.std.specs.Prelude.{◌≡◌, ℕ, zero, suc, ◌+◌, ◌-◌, ◌*◌, ◌^◌, Bool, true, false, cond, not, ◌&&◌, ◌||◌, nat_le, ◌==◌, List, [], ◌∷◌, ◌++◌, length, take, get_or, slice_get, replicate, Option, Some, None, is_some, option_map, bytes_eq, codes}
 use Rattle.std.specs.List.{position_from, list_any}
 use Rattle.smt_text.specs.Word.{Word}
 use Rattle.smt_text.specs.declared.token.Kind.{Kind}
@@ -12,6 +12,8 @@ use Rattle.smt_names.specs.declared.connective.Connective.{Connective}
 use Rattle.smt_names.specs.declared.connective.Connective.TheVariants as core
 use Rattle.smt_names.specs.declared.value.Value.{Value}
 use Rattle.smt_names.specs.declared.bound.Bound.{Bound}
+use Rattle.smt_names.specs.declared.signature.Signature.{Signature}
+use Rattle.smt_names.specs.declared.definition.Definition as definition
 use Rattle.smt_names.specs.declared.level.Level.{Level}
 use Rattle.smt_names.specs.declared.head.Head.{Head}
 use Rattle.smt_names.specs.declared.head.Head.TheVariants as head
@@ -205,8 +207,11 @@ new_function_name state word = do
 
 -- Sorts.
 -- the number of a sort: Bool is 0, and the declared sorts count from 1
+abbrev pub sort_at_place : Option ℕ → Option ℕ
+sort_at_place place = option_map (λ n. n + 1) place
+
 abbrev pub sort_number : State → List ℕ → Option ℕ
-sort_number state name = position_from (bytes_eq name) 0 (codes "Bool" ∷ state.sorts)
+sort_number state name = cond (bytes_eq name (codes "Bool")) (Some 0) (sort_at_place (position_from (bytes_eq name) 0 state.sorts))
 
 -- a name that a sort may get
 abbrev pub new_sort_name : State → Word → Making (Unit {0})
@@ -230,6 +235,26 @@ other_sort_of_token state word = do
   made sort
 
 -- Changes of the state.
+-- the sorts of a declared function
+abbrev pub signature_of : Declared → Signature
+signature_of f = record { arguments = f.arguments; sort = f.sort }
+
+-- a sort more
+abbrev pub with_sort : List ℕ → State → State
+with_sort name state = record state { sorts = state.sorts ++ name ∷ [] }
+
+-- a function more
+abbrev pub with_function : List ℕ → Signature → State → State
+with_function name signature state = record state { functions = state.functions ++ record { name = name; arguments = signature.arguments; sort = signature.sort } ∷ [] }
+
+-- a definition under its name
+abbrev pub defined_as : List ℕ → definition.Definition → Defined
+defined_as name d = record { name = name; parameters = d.parameters; sort = d.sort; rows = d.draft.rows; nodes = d.draft.nodes; value = d.value }
+
+-- a definition more
+abbrev pub with_definition : List ℕ → definition.Definition → State → State
+with_definition name d state = record state { definitions = state.definitions ++ defined_as name d ∷ [] }
+
 -- nothing declared
 abbrev pub at_start : Limits → State
 at_start limits = record { limits = limits; prints_success = false; sorts = []; functions = []; definitions = []; levels = [] }
