@@ -1,0 +1,5 @@
+pub mod Meant
+pub mod Patterns
+pub mod Terms
+pub mod Cursor
+pub mod Machine

@@ -1,0 +1,149 @@
+-- Lists that are open while a term is elaborated, and what is left to do for them.
+use Rattle.std.specs.Prelude.{◌≡◌, ℕ, ◌+◌, ◌≤◌, ◌<◌, List, [], ◌∷◌, ◌++◌, length, reverse, take, Result, Ok, Err}
+use Rattle.smt_text.specs.Word.{Word}
+use Rattle.smt_text.specs.declared.token.Place.{Place}
+use Rattle.term_table.specs.declared.memory.Memory.{Memory}
+use Rattle.formula_shape.specs.Draft.{Draft}
+use Rattle.smt_names.specs.declared.value.Value.{Value}
+use Rattle.smt_names.specs.declared.arg.Arg.{Arg}
+use Rattle.smt_names.specs.declared.bound.Bound.{Bound}
+use Rattle.smt_names.specs.declared.head.Head.{Head}
+use Rattle.smt_names.specs.declared.stop.Stop.{Stop}
+use Rattle.smt_names.specs.declared.syntax_fault.SyntaxFault.{SyntaxFault}
+use Rattle.smt_names.specs.Making.{Making, made, then_from, ◌>>=◌}
+use Rattle.smt_names.specs.Makes.{Refuses}
+use Rattle.smt_names.specs.Names.{State, Scope, named_by}
+use Rattle.smt_forms.specs.Applied.{applied}
+use Rattle.smt_terms.specs.declared.frame.Frame.{Frame}
+use Rattle.smt_terms.specs.declared.frame.Work.{Work}
+use Rattle.smt_terms.specs.declared.frame.Work.TheVariants.{Apply, Let, Pass}
+use Rattle.smt_terms.specs.declared.frame.Inside.{Inside}
+use Rattle.smt_terms.specs.declared.frame.Next.{Next}
+use Rattle.smt_terms.specs.declared.frame.Next.TheVariants as step
+use Rattle.smt_terms.specs.declared.frame.Given.{Given}
+use Rattle.smt_terms.specs.declared.frame.Given.TheVariants as given
+use Rattle.smt_terms.specs.Meant.{Meant, End, Token, Group}
+use Rattle.smt_terms.specs.Terms.{value, values, bind, bound_values}
+use Rattle.smt_terms.specs.Cursor.{word_at, here}
+
+-- the scope of a term where these names are bound
+abbrev pub scope_of : State → Inside → List Bound → Scope
+scope_of state inside bound = record { state = state; bound = bound; in_forall = inside.in_forall; in_definition = inside.in_definition }
+
+-- the scope with more names bound
+abbrev pub with_bound : Scope → List Bound → Scope
+with_bound scope bound = record scope { bound = scope.bound ++ bound }
+
+-- the scope round a list, by the scope of what is under way in it
+abbrev pub outside : Work → Scope → Scope
+outside (Apply called head args) scope = scope
+outside (Let name done next body) scope = scope
+outside (Pass bound) scope = record scope { bound = take bound scope.bound }
+
+module _ (words : List Word) where
+  -- an application with these arguments gets those that are left
+  abbrev pub applies : Scope → Frame → ℕ → Head → List Arg → Meant → Making Value
+  applies scope f called head args trees = do
+    more ← values scope trees
+    applied f.paren f.head (word_at words called).text (named_by scope.state head) (args ++ more)
+
+  -- the bindings from a place on, after those that are done, and then the body
+  abbrev pub binds : Scope → Place → List Bound → (next body : ℕ) → Making Value
+  binds scope head done next body = do
+    bound ← bound_values scope (here words next)
+    value head (with_bound scope (done ++ bound)) (here words body)
+
+  -- a list has the value of a tree, and these trees are left in it
+  abbrev pub takes_by : Work → Scope → Frame → Meant → Place → Value → Making Value
+  takes_by (Apply called head args) scope f trees at v = applies scope f called head (args.items ++ record { place = at; value = v } ∷ []) trees
+  takes_by (Let name done next body) scope f trees at v = binds scope f.head (done.items ++ bind (word_at words name).text v ∷ []) next body
+  takes_by (Pass bound) scope f trees at v = made v
+
+  -- a list goes on with these trees
+  abbrev pub goes_by : Work → Scope → Frame → Meant → Making Value
+  goes_by (Apply called head args) scope f trees = applies scope f called head args.items trees
+  goes_by (Let name done next body) scope f trees = do
+    v ← value (word_at words name).place scope trees
+    binds scope f.head (done.items ++ bind (word_at words name).text v ∷ []) next body
+  goes_by (Pass bound) scope f trees = value f.head scope trees
+
+  -- What is left to do once a tree has its value, by the lists that are open, the innermost first, and the trees left in that.
+  unfoldable pub finish : Scope → List Frame → Meant → Place → Value → Making Value
+  finish scope [] trees at v = made v
+  finish scope (f ∷ fs) trees at v = do
+    u ← takes_by f.work scope f trees at v
+    finish (outside f.work scope) fs (here words f.after) f.paren u
+
+  -- What is left to do where a tree or the end of the innermost list comes next.
+  unfoldable pub resume : Place → Scope → List Frame → Meant → Making Value
+  resume missing scope [] trees = value missing scope trees
+  resume missing scope (f ∷ fs) trees = do
+    u ← goes_by f.work scope f trees
+    finish (outside f.work scope) fs (here words f.after) f.paren u
+
+  -- how much work some trees are
+  unfoldable pub weight : Meant → ℕ
+  weight End = 0
+  weight (Token word trees) = 1 + weight trees
+  weight (Group paren meaning inner trees) = 3 + weight inner + weight trees
+
+  abbrev pub weight_by : Work → ℕ
+  weight_by (Apply called head args) = 1
+  weight_by (Let name done next body) = 1 + weight (here words next) + weight (here words body)
+  weight_by (Pass bound) = 1
+
+  -- and what is left of some open lists
+  unfoldable pub load : List Frame → ℕ
+  load [] = 0
+  load (f ∷ fs) = weight_by f.work + weight (here words f.after) + load fs
+
+-- From a place on, with these lists open, the innermost last, what is left to do.
+abbrev pub rest_of : List Word → State → Inside → Place → List Frame → List Bound → ℕ → Making Value
+rest_of words state inside missing frames bound i = resume words missing (scope_of state inside bound) (reverse frames) (here words i)
+
+-- What is left to do once a tree has its value, and the next stands there.
+abbrev pub given_to : List Word → State → Inside → List Frame → List Bound → ℕ → Place → Value → Making Value
+given_to words state inside frames bound next at v = finish words (scope_of state inside bound) (reverse frames) (here words next) at v
+
+-- how much work is left there
+abbrev pub work_of : List Word → List Frame → ℕ → ℕ
+work_of words frames i = weight words (here words i) + load words (reverse frames)
+
+-- What a step did that had so much to do: it goes on at a place, with no more work than so much, or the value of the whole is there.
+abbrev pub GoesOn : List Word → State → Inside → Place → List Frame → List Bound → Draft → (most : ℕ) → Next → Result (Value × Draft) SyntaxFault → Type 0
+GoesOn words state inside missing frames bound draft most (step.At i) was = (was ≡ rest_of words state inside missing frames bound i draft) × (work_of words frames i ≤ most)
+GoesOn words state inside missing frames bound draft most (step.Whole v) was = was ≡ Ok (v, draft)
+
+-- the same of what takes nothing from the shape and can lack memory alone, in each scope and shape
+abbrev pub Continues : List Word → List Frame → List Bound → (most : ℕ) → Result ℕ Memory → (State → Inside → Making Value) → Type 0
+Continues words frames bound most (Ok i) was = (state : State) (inside : Inside) (missing : Place) (draft : Draft) → GoesOn words state inside missing frames bound draft most (step.At i) (was state inside draft)
+Continues words frames bound most (Err refused) was = Unit {0}
+
+-- a list that is a let gets its further bindings and its body, and gives the body's value on
+abbrev pub binds_in : List Word → List Frame → List Bound → (paren head : Place) → (after : ℕ) → List Bound → (next body : ℕ) → State → Inside → Making Value
+binds_in words frames bound paren head after done next body state inside = do
+  v ← binds words (scope_of state inside bound) head done next body
+  finish words (scope_of state inside bound) (reverse frames) (here words after) paren v
+
+-- What giving a value to the innermost list did: it is that of the whole, elaboration goes on at a place, or it is the value of that list.
+abbrev pub Gives : List Word → List Frame → List Bound → List Frame → List Bound → (after : ℕ) → Place → Value → Result Given Memory → Type 0
+Gives words frames bound new_frames new_bound after at v (Ok given.Whole) = (state : State) (inside : Inside) (draft : Draft) → given_to words state inside frames bound after at v draft ≡ Ok (v, draft)
+Gives words frames bound new_frames new_bound after at v (Ok (given.At i)) =
+    (state : State) (inside : Inside) (missing : Place) (draft : Draft) → GoesOn words state inside missing new_frames new_bound draft (work_of words frames after) (step.At i) (given_to words state inside frames bound after at v draft)
+Gives words frames bound new_frames new_bound after at v (Ok (given.Outer outer_at outer_next)) =
+    ((state : State) (inside : Inside) (draft : Draft) → given_to words state inside frames bound after at v draft ≡ given_to words state inside new_frames new_bound outer_next outer_at v draft)
+    × (length new_frames < length frames) × (work_of words new_frames outer_next ≤ work_of words frames after)
+Gives words frames bound new_frames new_bound after at v (Err refused) = Unit {0}
+
+-- what giving it to a list did that was the innermost, of more than these
+abbrev pub PutsIn : List Word → List Frame → List Bound → List Frame → List Bound → Frame → (after : ℕ) → Place → Value → Result Given Memory → Type 0
+PutsIn words frames bound new_frames new_bound f after at v (Ok given.Whole) = ⊥
+PutsIn words frames bound new_frames new_bound f after at v (Ok (given.At i)) = Gives words (frames ++ f ∷ []) bound new_frames new_bound after at v (Ok (given.At i))
+PutsIn words frames bound new_frames new_bound f after at v (Ok (given.Outer outer_at outer_next)) = Gives words (frames ++ f ∷ []) bound new_frames new_bound after at v (Ok (given.Outer outer_at outer_next))
+PutsIn words frames bound new_frames new_bound f after at v (Err refused) = Unit {0}
+
+-- what giving it on did: elaboration goes on at a place, or it is the value of the whole
+abbrev pub GivesOn : List Word → List Frame → List Bound → List Frame → List Bound → (after : ℕ) → Place → Value → Result Next Memory → Type 0
+GivesOn words frames bound new_frames new_bound after at v (Ok n) =
+    (state : State) (inside : Inside) (missing : Place) (draft : Draft) → GoesOn words state inside missing new_frames new_bound draft (work_of words frames after) n (given_to words state inside frames bound after at v draft)
+GivesOn words frames bound new_frames new_bound after at v (Err refused) = Unit {0}
