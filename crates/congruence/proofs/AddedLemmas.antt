@@ -5,9 +5,9 @@ use Rattle.term_table.specs.Same.{Same}
 use Rattle.term_table.specs.Standing.{terms_of}
 use Rattle.term_table.specs.State.{GraphState, state_after}
 use Rattle.term_table.specs.Terms.{term_row, IsAbsent}
-use Rattle.congruence.specs.declared.added.Added.{Added}
+use Rattle.class_parts.specs.declared.added.Added.{Added}
 use Rattle.congruence.specs.Operations.{Adds, new_row, WasSame}
-use Rattle.congruence.specs.Unions.{AreUnions}
+use Rattle.class_parts.specs.Unions.{AreUnions}
 
 pub Adds-new : {E : Type 0} (result : Result Added E) (old new : GraphState) (symbol : ℕ) (args : List ℕ) → IsAbsent (terms_of old.standing) (term_row symbol args) → IfOk result (λ added. added.term ≡ length (terms_of old.standing)) → IfOk result (λ added. IsTrue added.fresh)
     → OnOk result (new ≡ state_after old (Add symbol args)) → IfOk result (λ added. AreUnions (WasSame old.standing (length (terms_of new.standing))) (Same new.standing) added.unions) → IfOk result (λ added. Adds old new (term_row symbol args) added.term added.unions added.fresh)

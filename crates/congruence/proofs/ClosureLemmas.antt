@@ -5,8 +5,8 @@ use Rattle.std.proofs.lemmas.List.Elements.{Contains-append_left, Contains-appen
 use Rattle.term_table.specs.declared.term_row.TermRow.{TermRow}
 use Rattle.term_table.specs.Terms.{term_row}
 use Rattle.term_table.specs.Same.{Derives, DerivesEach, same_term, turned, joined, merged, congruent, none, more}
-use Rattle.congruence.proofs.Elements.{contains_none}
-use Rattle.congruence.specs.Closure.{signature, found, Respects, Joined, EntryIsSame, IsSound, IsSigned, IsComplete}
+use Rattle.congruence.proofs.ReadLemmas.{contains_none}
+use Rattle.class_parts.specs.Closure.{signature, found, Respects, Joined, EntryIsSame, IsSound, IsSigned, IsComplete}
 
 -- ---- at rest: labels are equal exactly where the terms are the same
 

@@ -8,12 +8,19 @@ use Rattle.term_table.specs.Terms.{term_row}
 use Rattle.term_table.specs.Lawful.{EndsBelow}
 use Rattle.term_table.specs.Same.{Derives, Same, same_term, turned, joined, merged, congruent}
 use Rattle.term_table.specs.Standing.{terms_of, merges_of}
-use Rattle.congruence.specs.State.{State}
-use Rattle.congruence.specs.Indexed.{HaveOneLabel}
-use Rattle.congruence.specs.Standing.{IsGood}
-use Rattle.congruence.specs.Unions as unions
+use Rattle.class_parts.specs.State.{State}
+use Rattle.class_parts.specs.Indexed.{HaveOneLabel}
+use Rattle.class_parts.specs.Standing.{IsGood}
+use Rattle.class_parts.specs.Unions as unions
 use Rattle.congruence.specs.Operations.{WasSame}
-use Rattle.congruence.proofs.StandingLemmas.{same_of_labels, labels_of_same}
+use Rattle.congruence.proofs.ClosureLemmas.{same_where_labels_are, labels_are_where_same}
+
+-- in a good state, labels are equal exactly where the terms are the same
+same_of_labels : (s : State) → IsGood s → (a b : ℕ) → a < length s.rows → b < length s.rows → slice_index s.labels a ≡ slice_index s.labels b → Derives s.rows (merges_of s.log) a b
+same_of_labels s good a b ha hb e = same_where_labels_are s.rows (merges_of s.log) s.labels s.table good.closed.sound a b ha hb e
+
+labels_of_same : (s : State) → IsGood s → (a b : ℕ) → Derives s.rows (merges_of s.log) a b → slice_index s.labels a ≡ slice_index s.labels b
+labels_of_same s good a b same = labels_are_where_same s.rows (merges_of s.log) s.labels s.table good.closed.complete a b same
 
 -- what is derived is between terms
 pub Derives-below : (rows : List TermRow) (merges : List (ℕ × ℕ)) → EndsBelow merges (length rows) → (s t : ℕ) → Derives rows merges s t → (s < length rows) × (t < length rows)

@@ -6,13 +6,12 @@ use Rattle.term_table.specs.Terms.{term_row, HasRow}
 use Rattle.term_table.specs.Same.{Same, IsLeader}
 use Rattle.term_table.specs.Questions.{AreAll, IsNth, HasSymbol, InClass, IsParent}
 use Rattle.term_table.specs.Standing.{terms_of}
-use Rattle.congruence.specs.declared.place.Place.TheVariants.{Symbol, Member, Parent}
-use Rattle.congruence.specs.State.{State}
-use Rattle.congruence.specs.Listed.{IsOwn}
-use Rattle.congruence.specs.Standing.{IsGood}
-use Rattle.congruence.proofs.JoinedListsLemmas.{contains_at}
+use Rattle.class_parts.specs.declared.place.Place.TheVariants.{Symbol, Member, Parent}
+use Rattle.class_parts.specs.State.{State}
+use Rattle.class_parts.specs.Listed.{IsOwn}
+use Rattle.class_parts.specs.Standing.{IsGood}
+use Rattle.congruence.proofs.ReadLemmas.{contains_at, own_label}
 use Rattle.congruence.proofs.MeaningLemmas.{same_of_label, label_of_same}
-use Rattle.congruence.proofs.SettleLemmas.{own_label}
 
 module _ (s : State) (good : IsGood s) where
   to_log : (t : ℕ) (row : TermRow) → HasRow s.rows t row → HasRow (terms_of s.log) t row

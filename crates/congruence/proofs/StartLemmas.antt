@@ -9,11 +9,11 @@ use Rattle.term_table.specs.declared.op.Op.{Op}
 use Rattle.term_table.specs.declared.op.Op.TheVariants.{Add, Merge, Differ, Live, Push, Pop}
 use Rattle.term_table.specs.LawfulLaws.{then_op}
 use Rattle.term_table.specs.Standing.{is_push, levels_of, standing_after}
-use Rattle.congruence.specs.declared.classes.Classes.{Classes}
-use Rattle.congruence.specs.declared.change.Change.{Change}
-use Rattle.congruence.specs.State.{State, before_change}
-use Rattle.congruence.specs.History.{now, notes, state_at, KeepsHistory}
-use Rattle.congruence.specs.Standing.{IsGood, Follows}
+use Rattle.class_parts.specs.declared.classes.Classes.{Classes}
+use Rattle.class_parts.specs.declared.change.Change.{Change}
+use Rattle.class_parts.specs.State.{State, before_change}
+use Rattle.class_parts.specs.History.{now, notes, state_at, KeepsHistory}
+use Rattle.class_parts.specs.Standing.{IsGood, Follows}
 use Rattle.congruence.specs.GraphInside.{HasStood, AreStarts}
 
 index_earlier : (xs : List ℕ) (x i : ℕ) → i < length xs → slice_index (xs ++ x ∷ []) i ≡ slice_index xs i

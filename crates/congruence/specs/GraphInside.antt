@@ -1,13 +1,14 @@
 -- What a `Graph` keeps true of its fields.
 use Rattle.std.specs.Prelude.{◌≡◌, ◌<◌, ◌≤◌, ◌+◌, ◌^◌, ℕ, List, length, take, slice_index}
 use Rattle.term_table.specs.declared.done.Done.{Done}
-use Rattle.term_table.specs.Standing.{levels_of}
+use Rattle.term_table.specs.Standing.{levels_of, triggers_of}
 use Rattle.term_table.specs.State.{GraphState}
-use Rattle.congruence.specs.declared.classes.Classes.{Classes}
+use Rattle.class_parts.specs.declared.classes.Classes.{Classes}
 use Rattle.congruence.specs.declared.graph.Graph.TheInside.{Inside}
-use Rattle.congruence.specs.State.{State}
-use Rattle.congruence.specs.History.{now, notes, state_at}
-use Rattle.congruence.specs.Standing.{IsGood}
+use Rattle.congruence.specs.Clash.{apart_of}
+use Rattle.class_parts.specs.State.{State}
+use Rattle.class_parts.specs.History.{now, notes, state_at}
+use Rattle.class_parts.specs.Standing.{IsGood}
 
 -- the graph that the fields hold
 abbrev pub shown_graph : Inside → GraphState
@@ -31,4 +32,6 @@ pub record AreStarts (classes : Classes) (starts : List ℕ) : Type 0 where
 pub record IsGraph (graph : Inside) : Type 0 where
   pub starts : AreStarts graph.classes graph.starts.items
   pub levels : graph.levels ≡ levels_of (now graph.classes).log
+  pub live : graph.live.items ≡ triggers_of (now graph.classes).log
+  pub apart : graph.apart.items ≡ apart_of (now graph.classes).log
   pub room : graph.done + graph.levels < 2 ^ 64

@@ -1,14 +1,4 @@
-pub mod Rising
-pub mod Lists
-pub mod Shown
-pub mod Table
-pub mod Closure
-pub mod State
-pub mod History
-pub mod Indexed
-pub mod Listed
-pub mod Standing
-pub mod Unions
 pub mod Operations
+pub mod Clash
+pub mod Last
 pub mod GraphInside
-pub mod First

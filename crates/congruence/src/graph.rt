@@ -1,23 +1,29 @@
 //! The graph.
-ghost use Rattle.std.specs.Prelude.{◌≡◌, ◌≤◌, ◌<◌, ◌+◌, ◌^◌, ◌↔◌, ◌≢◌, [], length, All, IfOk, IfSome, IfNone, OnOk, OnErr, IsTrue};
+ghost use Rattle.std.specs.Prelude.{◌≡◌, ◌≤◌, ◌<◌, ◌+◌, ◌-◌, ◌^◌, ◌↔◌, ◌≢◌, [], ◌∷◌, length, take, slice_get, All, IsOk, IfOk, IfSome, IfNone, OnOk, OnErr, IsTrue};
+ghost use Rattle.std.specs.List.{before_last};
+ghost use Rattle.std.specs.Option.{option_copied};
+ghost use Rattle.term_table.specs.declared.op.Op.{Op as SpecOp};
 ghost use Rattle.term_table.specs.declared.op.Op.TheVariants.{Add as AddOp, Merge as MergeOp, Differ as DifferOp, Live as LiveOp, Push as PushOp, Pop as PopOp};
 ghost use Rattle.term_table.specs.Lawful.{Allows};
-ghost use Rattle.term_table.specs.Questions.{HasSymbol, InClass, IsNth, IsParent};
-ghost use Rattle.term_table.specs.Same.{IsLeader, Same};
-ghost use Rattle.term_table.specs.Standing.{terms_of, levels_of, rows_added, merges_added};
-ghost use Rattle.term_table.specs.State.{first_state, state_after, table_of};
-ghost use Rattle.term_table.specs.Terms.{term_row, HasRow, IsAbsent, IsFull};
+ghost use Rattle.term_table.specs.Same.{Same};
+ghost use Rattle.term_table.specs.Standing.{is_push, terms_of, levels_of, differs_added, triggers_added};
+ghost use Rattle.term_table.specs.State.{GraphState, first_state, state_after, table_of, IsFullFor};
+ghost use Rattle.term_table.specs.Terms.{term_row, IsFull};
 ghost use Rattle.term_table.specs.Trigger.{IsValid};
-ghost use Rattle.congruence.specs.Operations.{Adds, WasSame};
-ghost use Rattle.congruence.specs.Unions.{AreUnions};
+ghost use Rattle.class_parts.specs.Unions.{AreUnions};
+ghost use Rattle.congruence.specs.Operations.{Adds, AllowsRow, AreTerms, WasSame, CanTakeBack, taken_back};
+ghost use Rattle.congruence.specs.Clash.{IsClash};
+ghost use Rattle.congruence.specs.Last.{DropsLast, IsLastShare};
 
-use crate::added::Added;
-use crate::classes::Classes;
-use crate::place::Place;
-use crate::unions::Unions;
+use crate::clash::Clash;
+use crate::share::{Share, share_of};
+use class_parts::{Added, Classes, Place, Unions};
 use std::alloc::Global;
 use std::marker::Model;
-use term_table::{Memory, Op, TableFault, Trigger};
+use term_table::{ClassGraph, Done, Front, Memory, Numbers, Op, TableFault, TermRow, Trigger};
+
+/// The most arguments that a row may have.
+const MOST_ARGS: u32 = 255;
 
 /// Terms in classes, closed under congruence, with a way back to any operation that stands.
 #[derive(Drop)]
@@ -26,6 +32,10 @@ pub struct Graph {
     classes: Classes,
     /// For each operation that stands, the mark at which it began.
     starts: Vec<u64>,
+    /// The live triggers, by number.
+    live: Vec<Trigger>,
+    /// The pairs that are kept apart: true and false, and then the ends of each disequation.
+    apart: Vec<(u32, u32)>,
     /// How many levels are open.
     levels: u32,
     /// How many operations were done.
@@ -44,6 +54,22 @@ impl Model for Graph {
     ghost invariant = { IsGraph };
 }
 
+/// The pair of true and false.
+fn first_apart(alloc: Global) -> Result<Vec<(u32, u32)>, Memory>
+    ensures { IfOk result (λ apart. apart.items ≡ (0, 1) ∷ []) }
+{
+    let mut apart = Vec::new(alloc);
+    apart.push((0, 1))?;
+    Ok(apart)
+}
+
+/// Whether each number is below the bound.
+fn are_below(numbers: &[u32], bound: u32) -> bool
+    ensures { IsTrue result ↔ All (λ number. number < bound) numbers.now }
+{
+    numbers.iter().all(|number| *number < bound)
+}
+
 impl Graph {
     /// A graph of true and false alone, which may have so many terms.
     pub fn new(alloc: Global, limit: u32) -> Result<Graph, Memory>
@@ -51,10 +77,13 @@ impl Graph {
         ensures { IfOk result (λ graph. graph ≡ first_state limit) }
     {
         let classes = Classes::new(alloc, limit)?;
+        let apart = first_apart(alloc)?;
         Ok(Graph {
             alloc,
             classes,
             starts: Vec::new(alloc),
+            live: Vec::new(alloc),
+            apart,
             levels: 0,
             done: 0,
         })
@@ -113,15 +142,6 @@ impl Graph {
         Ok(added)
     }
 
-    /// The term with this row. Takes no memory.
-    fn find_row(&self, symbol: u32, args: &[u32]) -> Option<u32>
-        ensures found { IfSome result (λ term. HasRow (terms_of self.now.standing) term (term_row symbol args.now)) }
-        ensures absent { IfNone result (IsAbsent (terms_of self.now.standing) (term_row symbol args.now)) }
-    {
-        let classes = &self.classes;
-        classes.parts.rows.find(symbol, args)
-    }
-
     /// The term of a row, which is entered with all that follows where it is new. After a fault the graph is as before.
     pub fn add(&mut self, symbol: u32, args: &[u32]) -> Result<Added, TableFault>
         requires terms { All (λ arg. arg < length (terms_of self.old.standing)) args.now }
@@ -130,7 +150,7 @@ impl Graph {
         ensures full { result ≡ Err TableFault.Full → IsFull (table_of self.old) (term_row symbol args.now) }
         ensures err { OnErr result (self.new ≡ self.old) }
     {
-        match self.find_row(symbol, args) {
+        match self.find(symbol, args) {
             Some(term) => Ok(Added {
                 term,
                 fresh: false,
@@ -159,27 +179,6 @@ impl Graph {
         Ok(unions)
     }
 
-    /// Does an operation that changes no row and no class and opens no level. Without memory the graph is as before.
-    fn log_op(&mut self, op: Op) -> Result<(), Memory>
-        requires allowed { Allows self.old.standing op }
-        requires no_rows { rows_added op ≡ [] }
-        requires no_merges { merges_added op ≡ [] }
-        requires no_push { op ≢ PushOp }
-        requires no_pop { op ≢ PopOp }
-        ensures ok { OnOk result (self.new ≡ state_after self.old op) }
-        ensures err { OnErr result (self.new ≡ self.old) }
-    {
-        if !self.has_number() {
-            return Err(Memory);
-        }
-        self.starts.reserve(1)?;
-        let start = self.classes.trail.mark();
-        self.classes.log_op(self.done, op)?;
-        self.starts.push_reserved(start);
-        self.done += 1;
-        Ok(())
-    }
-
     /// Keeps two terms apart. Without memory the graph is as before.
     pub fn differ(&mut self, left: u32, right: u32) -> Result<(), Memory>
         requires left { left < length (terms_of self.old.standing) }
@@ -187,7 +186,17 @@ impl Graph {
         ensures ok { OnOk result (self.new ≡ state_after self.old (DifferOp left right)) }
         ensures err { OnErr result (self.new ≡ self.old) }
     {
-        self.log_op(Op::Differ { left, right })
+        if !self.has_number() {
+            return Err(Memory);
+        }
+        self.starts.reserve(1)?;
+        self.apart.reserve(1)?;
+        let start = self.classes.trail.mark();
+        self.classes.log_op(self.done, Op::Differ { left, right })?;
+        self.starts.push_reserved(start);
+        self.apart.push_reserved((left, right));
+        self.done += 1;
+        Ok(())
     }
 
     /// Makes a trigger live. Without memory the graph is as before.
@@ -196,8 +205,19 @@ impl Graph {
         ensures ok { OnOk result (self.new ≡ state_after self.old (LiveOp trigger.now)) }
         ensures err { OnErr result (self.new ≡ self.old) }
     {
+        if !self.has_number() {
+            return Err(Memory);
+        }
+        let kept = trigger.copy(self.alloc)?;
         let trigger = trigger.copy(self.alloc)?;
-        self.log_op(Op::Live { trigger })
+        self.starts.reserve(1)?;
+        self.live.reserve(1)?;
+        let start = self.classes.trail.mark();
+        self.classes.log_op(self.done, Op::Live { trigger })?;
+        self.starts.push_reserved(start);
+        self.live.push_reserved(kept);
+        self.done += 1;
+        Ok(())
     }
 
     /// Opens a level. Without memory the graph is as before.
@@ -217,49 +237,210 @@ impl Graph {
         Ok(())
     }
 
-    /// Whether two terms are equal. Takes no memory.
-    pub fn same(&self, left: u32, right: u32) -> bool
-        requires left { left < length (terms_of self.now.standing) }
-        requires right { right < length (terms_of self.now.standing) }
-        ensures { IsTrue result ↔ Same self.now.standing left right }
+    /// The last operation that stands.
+    fn last(&self) -> Option<&Done>
+        ensures { option_copied result ≡ slice_get self.now.standing (length self.now.standing - 1) }
     {
-        let labels = &self.classes.parts.labels;
-        labels[left as usize] == labels[right as usize]
+        let count = self.starts.len();
+        if count == 0 {
+            return None;
+        }
+        let classes = &self.classes;
+        classes.parts.log.get(count - 1)
     }
 
-    /// The least term of the class. Takes no memory.
-    pub fn leader(&self, term: u32) -> u32
-        requires { term < length (terms_of self.now.standing) }
-        ensures { IsLeader self.now.standing term result }
+    /// What the last operation that stands added.
+    fn last_share(&self) -> Share
+        requires { 0 < length self.now.standing }
+        ensures { IsLastShare self.now.standing result }
     {
+        match self.last() {
+            Some(done) => share_of(done),
+            None => unreachable!(),
+        }
+    }
+
+    /// Takes the last operation that stands off, and tells whether it opened a level.
+    fn drop_last(&mut self) -> bool
+        requires { 0 < length self.old.standing }
+        ensures { DropsLast self.old self.new result }
+    {
+        let share = self.last_share();
+        let count = self.starts.len() - 1;
+        let start = self.starts[count];
+        self.classes.back_to(start);
+        self.starts.truncate(count);
+        self.live.truncate(self.live.len() - share.triggers);
+        self.apart.truncate(self.apart.len() - share.differs);
+        self.levels -= share.levels;
+        share.opens
+    }
+
+    /// Takes the last Push that stands and all after it off.
+    fn drop_level(&mut self)
+        requires { 0 < levels_of self.old.standing }
+        ensures { self.new ≡ record self.old { standing = before_last is_push self.old.standing } }
+    {
+        let mut opened = false;
+        while !opened {
+            opened = self.drop_last();
+        }
+    }
+
+    /// Ends the last level that is open, with all that came in it. Always succeeds, and takes no memory.
+    pub fn pop(&mut self)
+        requires { 0 < levels_of self.old.standing }
+        ensures { self.new ≡ state_after self.old PopOp }
+    {
+        let done = self.done;
+        self.drop_level();
+        self.done = done + 1;
+    }
+
+    /// Whether the operation that was done last stands and opened no level: whether it can be taken back. Takes no memory.
+    pub fn can_take_back(&self) -> bool
+        ensures { IsTrue result ↔ CanTakeBack self.now }
+    {
+        match self.last() {
+            Some(done) => !done.is_push() && self.done > 0 && done.serial == self.done - 1,
+            None => false,
+        }
+    }
+
+    /// Takes the operation that was done last back: it counts as not done. Always succeeds, and takes no memory.
+    pub fn take_back(&mut self)
+        requires { CanTakeBack self.old }
+        ensures gives { self.new ≡ taken_back self.old }
+        ensures before { (before : GraphState) (op : SpecOp) → op ≢ PopOp → self.old ≡ state_after before op → self.new ≡ before }
+    {
+        let done = self.done;
+        self.drop_last();
+        self.done = done - 1;
+    }
+
+    /// Two terms that are kept apart and are equal: true and false, or the ends of the first such disequation. Takes no
+    /// memory.
+    pub fn clash(&self) -> Option<Clash>
+        ensures { IsClash self.now.standing result }
+    {
+        for pair in self.apart.as_slice() {
+            if self.same(pair.0, pair.1) {
+                return Some(Clash {
+                    left: pair.0,
+                    right: pair.1,
+                });
+            }
+        }
+        None
+    }
+
+    /// Whether the row is new, and its few arguments are terms.
+    fn is_new_row(&self, symbol: u32, args: &Numbers) -> bool
+        ensures { IsTrue result ↔ AllowsRow (terms_of self.now.standing) symbol args.now }
+    {
+        args.len() <= MOST_ARGS
+            && are_below(args.as_slice(), self.len())
+            && self.find(symbol, args.as_slice()).is_none()
+    }
+
+    /// Whether both terms stand.
+    fn are_terms(&self, left: u32, right: u32) -> bool
+        ensures { IsTrue result ↔ AreTerms (length (terms_of self.now.standing)) left right }
+    {
+        let terms = self.len();
+        left < terms && right < terms
+    }
+
+    /// Whether a level is open.
+    fn is_open(&self) -> bool
+        ensures { IsTrue result ↔ (0 < levels_of self.now.standing) }
+    {
+        self.levels > 0
+    }
+
+    /// Whether the operation may be done next: the terms that it names stand, its row is new, its trigger is valid, and
+    /// a Pop has its Push. Takes no memory.
+    pub fn lawful(&self, op: &Op) -> bool
+        ensures { IsTrue result ↔ Allows self.now.standing op.now }
+    {
+        match op {
+            Op::Add { symbol, args } => self.is_new_row(*symbol, args),
+            Op::Merge { left, right } => self.are_terms(*left, *right),
+            Op::Differ { left, right } => self.are_terms(*left, *right),
+            Op::Live { trigger } => trigger.valid(),
+            Op::Push => true,
+            Op::Pop => self.is_open(),
+        }
+    }
+
+    /// Does the operation. `Full` comes where it adds a term and as many stand as may. After a fault the graph is as
+    /// before. A Pop always succeeds.
+    pub fn apply(&mut self, op: &Op) -> Result<(), TableFault>
+        requires { Allows self.old.standing op.now }
+        ensures ok { OnOk result (self.new ≡ state_after self.old op.now) }
+        ensures full { result ≡ Err TableFault.Full → IsFullFor (table_of self.old) op.now }
+        ensures pop { op.now ≡ PopOp → IsOk result }
+        ensures err { OnErr result (self.new ≡ self.old) }
+    {
+        match op {
+            Op::Add { symbol, args } => {
+                let _added = self.add_new(*symbol, args.as_slice())?;
+            }
+            Op::Merge { left, right } => {
+                let _unions = self.merge(*left, *right)?;
+            }
+            Op::Differ { left, right } => self.differ(*left, *right)?,
+            Op::Live { trigger } => self.live(trigger)?,
+            Op::Push => self.push()?,
+            Op::Pop => self.pop(),
+        }
+        Ok(())
+    }
+}
+
+impl ClassGraph for Graph {
+    ghost standing = { λ graph. graph.standing };
+
+    ghost done = { λ graph. graph.done };
+
+    fn len(&self) -> u32 {
+        let classes = &self.classes;
+        classes.parts.rows.len()
+    }
+
+    fn row(&self, term: u32) -> &TermRow {
+        let classes = &self.classes;
+        classes.parts.rows.row(term)
+    }
+
+    fn find(&self, symbol: u32, args: &[u32]) -> Option<u32> {
+        let classes = &self.classes;
+        classes.parts.rows.find(symbol, args)
+    }
+
+    fn leader(&self, term: u32) -> u32 {
         let parts = &self.classes.parts;
         let label = parts.labels[term as usize];
         parts.leaders[label as usize]
     }
 
-    /// The k-th member of the class with this symbol, counted from 0. Takes no memory.
-    pub fn in_class(&self, term: u32, symbol: u32, k: u32) -> Option<u32>
-        requires { term < length (terms_of self.now.standing) }
-        ensures { IsNth (InClass self.now.standing term symbol) k result }
-    {
+    fn same(&self, left: u32, right: u32) -> bool {
+        let labels = &self.classes.parts.labels;
+        labels[left as usize] == labels[right as usize]
+    }
+
+    fn in_class(&self, term: u32, symbol: u32, k: u32) -> Option<u32> {
         let parts = &self.classes.parts;
         let label = parts.labels[term as usize];
         parts.lists.get(Place::Member { label, symbol }, k)
     }
 
-    /// The k-th term with this symbol, counted from 0. Takes no memory.
-    pub fn with_symbol(&self, symbol: u32, k: u32) -> Option<u32>
-        ensures { IsNth (HasSymbol self.now.standing symbol) k result }
-    {
+    fn with_symbol(&self, symbol: u32, k: u32) -> Option<u32> {
         let parts = &self.classes.parts;
         parts.lists.get(Place::Symbol { symbol }, k)
     }
 
-    /// The k-th term with this symbol whose argument at the place is in the class, counted from 0. Takes no memory.
-    pub fn parent(&self, term: u32, symbol: u32, place: u32, k: u32) -> Option<u32>
-        requires { term < length (terms_of self.now.standing) }
-        ensures { IsNth (IsParent self.now.standing term symbol place) k result }
-    {
+    fn parent(&self, term: u32, symbol: u32, place: u32, k: u32) -> Option<u32> {
         let parts = &self.classes.parts;
         let label = parts.labels[term as usize];
         let argument = place;
@@ -269,5 +450,41 @@ impl Graph {
             argument,
         };
         parts.lists.get(place, k)
+    }
+
+    fn triggers(&self) -> u32 {
+        let classes = &self.classes;
+        let _standing = classes.parts.log.len();
+        self.live.len() as u32
+    }
+
+    fn trigger(&self, n: u32) -> &Trigger {
+        &self.live[n as usize]
+    }
+
+    fn version(&self) -> u64 {
+        self.done
+    }
+
+    fn front(&self) -> Front {
+        let last = match self.last() {
+            Some(done) => done.serial,
+            None => 0,
+        };
+        Front {
+            length: self.starts.len() as u64,
+            last,
+        }
+    }
+
+    fn still_front(&self, front: &Front) -> bool {
+        if front.length == 0 {
+            return true;
+        }
+        let classes = &self.classes;
+        match classes.parts.log.get((front.length - 1) as usize) {
+            Some(done) => done.serial == front.last,
+            None => false,
+        }
     }
 }

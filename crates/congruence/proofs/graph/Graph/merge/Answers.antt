@@ -3,9 +3,10 @@ use Rattle.term_table.specs.declared.op.Op.TheVariants.{Merge as MergeOp}
 use Rattle.term_table.specs.Same.{Same}
 use Rattle.term_table.specs.Standing.{terms_of, levels_of}
 use Rattle.term_table.specs.State.{GraphState}
-use Rattle.congruence.specs.History.{now}
+use Rattle.class_parts.specs.History.{now}
 use Rattle.congruence.specs.Operations.{WasSame}
-use Rattle.congruence.specs.Unions.{AreUnions}
+use Rattle.class_parts.specs.Unions.{AreUnions}
+use Rattle.congruence.proofs.LastLemmas.{triggers_after, apart_after}
 use Rattle.congruence.proofs.StartLemmas.{AreStarts-after, levels_after}
 use Rattle.congruence.proofs.MeaningLemmas.{AreUnions-same}
 use Rattle.congruence.proofs.graph.Graph.merge.Goals as goal
@@ -21,6 +22,8 @@ invariant_of-self-2 c =
     record {
       starts = AreStarts-after old new c.self.inside.starts.items c.reserve.new.self.items c.push_reserved.new.self.items c.self.inside.done op c.mark-start.result c.self.invariant.starts c.merge.ensures.history c.mark-start.ensures follows c.in_ok-unions.ensures.good c.reserve.ensures.items c.push_reserved.ensures.items;
       levels = omega (arith, levels);
+      live = triggers_after (now old).log (now new).log c.self.inside.done op c.self.inside.live.items c.self.inside.live.items follows.log c.self.invariant.live (sym (append-nil c.self.inside.live.items));
+      apart = apart_after (now old).log (now new).log c.self.inside.done op c.self.inside.apart.items c.self.inside.apart.items follows.log c.self.invariant.apart (sym (append-nil c.self.inside.apart.items));
       room = omega (arith, ap (λ (g : GraphState). g.done) c.self.view_is, ap (λ (g : GraphState). levels_of g.standing) c.self.view_is, c.self.invariant.levels, room);
     }
 
