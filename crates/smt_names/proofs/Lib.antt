@@ -1,0 +1,4 @@
+pub mod EntryLemmas
+pub mod StateLemmas
+pub mod CheckLemmas
+pub mod BoundLemmas

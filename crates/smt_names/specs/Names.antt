@@ -1,5 +1,5 @@
 -- Names, sorts, and what a name stands for.
-use Rattle.std.specs.Prelude.{◌≡◌, ℕ, zero, suc, ◌+◌, ◌-◌, ◌*◌, ◌^◌, Bool, true, false, cond, not, ◌&&◌, ◌||◌, nat_le, ◌==◌, List, [], ◌∷◌, ◌++◌, length, take, get_or, slice_get, replicate, Option, Some, None, is_some, option_map, bytes_eq, codes}
+use Rattle.std.specs.Prelude.{◌≡◌, ℕ, ◌+◌, ◌-◌, ◌*◌, ◌^◌, Bool, true, false, cond, not, ◌&&◌, ◌||◌, nat_le, ◌==◌, List, [], ◌∷◌, ◌++◌, length, take, get_or, slice_get, replicate, Option, Some, None, is_some, option_map, bytes_eq, codes}
 use Rattle.std.specs.List.{position_from, list_any}
 use Rattle.smt_text.specs.Word.{Word}
 use Rattle.smt_text.specs.declared.token.Kind.{Kind}
@@ -12,6 +12,7 @@ use Rattle.smt_names.specs.declared.connective.Connective.{Connective}
 use Rattle.smt_names.specs.declared.connective.Connective.TheVariants as core
 use Rattle.smt_names.specs.declared.value.Value.{Value}
 use Rattle.smt_names.specs.declared.bound.Bound.{Bound}
+use Rattle.smt_names.specs.declared.stands.Stands.{Stands}
 use Rattle.smt_names.specs.declared.signature.Signature.{Signature}
 use Rattle.smt_names.specs.declared.definition.Definition as definition
 use Rattle.smt_names.specs.declared.level.Level.{Level}
@@ -91,6 +92,10 @@ last_with test (x ∷ xs) = keep_last (test x) x (last_with test xs)
 abbrev pub bound_as : List Bound → List ℕ → Option Bound
 bound_as bound name = last_with (λ b. bytes_eq name b.name) bound
 
+-- a name, bound to what it stands for
+abbrev pub bound_of : List ℕ → Stands → Bound
+bound_of name stands = record { name = name; stands = stands }
+
 -- Names that are not bound.
 abbrev pub function_at : List ℕ → List Declared → Option ℕ
 function_at name functions = position_from (λ f. bytes_eq name f.name) 0 functions
@@ -135,6 +140,11 @@ named_by state (head.Core c) = Core c
 named_by state (head.Function n) = function_of (n + 2) (slice_get state.functions n)
 named_by state (head.Definition n) = definition_of (slice_get state.definitions n)
 named_by state head.Unknown = Unknown
+
+-- whether something stands there
+abbrev pub is_head : Head → Bool
+is_head head.Unknown = false
+is_head h = true
 
 -- what a name stands for that is not bound
 abbrev pub named : State → List ℕ → Named
@@ -282,6 +292,5 @@ back_to state level levels = record state {
 
 -- n levels less: what stood when the last of them was opened
 abbrev pub popped : ℕ → State → State
-popped zero state = state
-popped (suc n) state = let kept = length state.levels - suc n in
+popped n state = let kept = length state.levels - n in
     back_to state (get_or state.levels kept (level_of state)) (take kept state.levels)

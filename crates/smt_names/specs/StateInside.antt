@@ -18,8 +18,14 @@ defined entry = defined_as entry.0.items entry.1
 
 -- the state that the fields hold
 abbrev pub state_of : Inside → State
-state_of s = record { limits = s.limits; prints_success = s.prints_success; sorts = map sort_of_entry s.sorts.entries; functions = map declared s.functions.entries;
-  definitions = map defined s.definitions.entries; levels = s.levels.items }
+state_of s = record {
+  limits = s.limits;
+  prints_success = s.prints_success;
+  sorts = map sort_of_entry s.sorts.entries;
+  functions = map declared s.functions.entries;
+  definitions = map defined s.definitions.entries;
+  levels = s.levels.items;
+}
 
 -- numbers fit, and as many levels are open as may be
 pub record IsSound (s : Inside) : Type 0 where

@@ -3,6 +3,7 @@
 
 mod arg;
 mod bound;
+mod bound_names;
 mod connective;
 mod definition;
 mod entries;
@@ -19,11 +20,15 @@ mod value;
 
 pub use arg::Arg;
 pub use bound::Bound;
+pub use bound_names::BoundNames;
 pub use connective::Connective;
 pub use definition::Definition;
 pub use head::Head;
 pub use level::Level;
-pub use names::{connective_of, is_reserved};
+pub use names::{
+    check_lawful_name, check_new_name, connective_of, is_keyword, is_numeral, is_reserved,
+    is_symbol,
+};
 pub use refusal::Refusal;
 pub use session_state::SessionState;
 pub use signature::Signature;

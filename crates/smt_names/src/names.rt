@@ -1,8 +1,13 @@
 //! Names with a meaning of their own.
-ghost use Rattle.std.specs.Prelude.{◌≡◌};
-ghost use Rattle.smt_names.specs.Names.{connective, is_reserved, is_solver_name};
+ghost use Rattle.std.specs.Prelude.{◌≡◌, ◌&&◌, not};
+ghost use Rattle.smt_names.specs.Names.{connective, is_reserved, is_solver_name, is_symbol, is_keyword, is_numeral, word_of, lawful_name, new_name};
+ghost use Rattle.smt_names.specs.Makes.{Checks};
 
 use crate::connective::Connective;
+use crate::refusal::Refusal;
+use crate::stop::Stop;
+use smt_text::{Kind, Place};
+use std::alloc::Global;
 
 /// What a name of the core theory stands for.
 #[tactic(auto, unfolding(crate::specs::Names::connective))]
@@ -65,4 +70,54 @@ pub(crate) fn is_solver_name(name: &[u8]) -> bool
         [] => false,
         [first, ..] => *first == b'@' || *first == b'.',
     }
+}
+
+/// Whether it is a symbol.
+pub fn is_symbol(kind: Kind) -> bool
+    ensures { result ≡ is_symbol kind }
+{
+    kind == Kind::Symbol
+}
+
+/// Whether it is a keyword.
+pub fn is_keyword(kind: Kind) -> bool
+    ensures { result ≡ is_keyword kind }
+{
+    kind == Kind::Keyword
+}
+
+/// Whether it is a numeral.
+pub fn is_numeral(kind: Kind) -> bool
+    ensures { result ≡ is_numeral kind }
+{
+    kind == Kind::Numeral
+}
+
+/// Whether the token is a symbol that is not reserved.
+fn is_lawful(kind: Kind, name: &[u8]) -> bool
+    ensures { result ≡ (is_symbol kind && not (is_reserved name.now)) }
+{
+    is_symbol(kind) && !is_reserved(name)
+}
+
+/// A name that may be bound: a symbol that is not reserved.
+pub fn check_lawful_name(alloc: Global, kind: Kind, place: Place, name: &[u8]) -> Result<(), Stop>
+    ensures { Checks result (lawful_name (word_of kind place name.now)) }
+{
+    if is_lawful(kind, name) {
+        Ok(())
+    } else {
+        Err(Stop::at(alloc, Refusal::BadForm, place))
+    }
+}
+
+/// A name that may be declared or defined: one that may be bound and is not left to solvers.
+pub fn check_new_name(alloc: Global, kind: Kind, place: Place, name: &[u8]) -> Result<(), Stop>
+    ensures { Checks result (new_name (word_of kind place name.now)) }
+{
+    check_lawful_name(alloc, kind, place, name)?;
+    if is_solver_name(name) {
+        return Err(Stop::at(alloc, Refusal::BadForm, place));
+    }
+    Ok(())
 }

@@ -1,16 +1,20 @@
 //! What stands between two commands.
-ghost use Rattle.std.specs.Prelude.{◌≡◌, ◌≤◌, ◌+◌, ◌++◌, ◌∷◌, [], length, slice_get, is_some, option_copied, option_map, false, OnOk, OnErr};
-ghost use Rattle.smt_names.specs.Names.{State, Declared, Defined, at_start, cleared, pushed, popped, head_of, named, is_known, sort_number, signature_of, with_sort, with_function, with_definition};
+ghost use Rattle.std.specs.Prelude.{◌≡◌, ◌≤◌, ◌+◌, ◌++◌, ◌∷◌, [], length, slice_get, get_or, option_copied, option_map, None, OnOk, OnErr};
+ghost use Rattle.smt_names.specs.Names.{Declared, at_start, cleared, level_of, pushed, popped, head_of, named_by, is_known, is_head, sort_number, word_of, new_function_name, new_sort_name, sort_of_token, other_sort_of_token, signature_of, with_sort, with_function, with_definition};
+ghost use Rattle.smt_names.specs.Makes.{Checks};
 
 use crate::connective::Connective;
 use crate::definition::Definition;
 use crate::entries::{find, put};
 use crate::head::Head;
 use crate::level::Level;
-use crate::names::connective_of;
+use crate::names::{check_new_name, connective_of, is_symbol};
+use crate::refusal::Refusal;
 use crate::signature::Signature;
+use crate::stop::Stop;
 use em_outside::Limits;
 use indexmap::IndexMap;
+use smt_text::{Kind, Place};
 use std::alloc::Global;
 use std::marker::Model;
 use term_table::Memory;
@@ -37,6 +41,18 @@ impl Model for SessionState {
     ghost view = { state_of };
 
     ghost invariant = { IsSound };
+}
+
+/// Whether something stands there.
+fn is_something(head: Head) -> bool
+    ensures { result ≡ is_head head }
+{
+    match head {
+        Head::Core(_) => true,
+        Head::Function(_) => true,
+        Head::Definition(_) => true,
+        Head::Unknown => false,
+    }
 }
 
 impl SessionState {
@@ -85,7 +101,8 @@ impl SessionState {
 
     /// What a name stands for that is not bound.
     pub fn head(&self, name: &[u8]) -> Head
-        ensures { result ≡ head_of self.now name.now }
+        ensures value { result ≡ head_of self.now name.now }
+        ensures known { is_known (named_by self.now result) ≡ is_head result }
     {
         if let Some(connective) = connective_of(name) {
             return Head::Core(connective);
@@ -132,6 +149,64 @@ impl SessionState {
         }
     }
 
+    /// A name that a function or a definition may get: a lawful one that stands for nothing.
+    pub fn check_function_name(&self, kind: Kind, place: Place, name: &[u8]) -> Result<(), Stop>
+        ensures check { Checks result (new_function_name self.now (word_of kind place name.now)) }
+        ensures new { OnOk result (head_of self.now name.now ≡ Head.Unknown) }
+    {
+        let alloc = *self.levels.allocator();
+        check_new_name(alloc, kind, place, name)?;
+        if is_something(self.head(name)) {
+            Err(Stop::of_name(alloc, Refusal::AlreadyDeclared, place, name))
+        } else {
+            Ok(())
+        }
+    }
+
+    /// A name that a sort may get: a lawful one that is no sort.
+    pub fn check_sort_name(&self, kind: Kind, place: Place, name: &[u8]) -> Result<(), Stop>
+        ensures check { Checks result (new_sort_name self.now (word_of kind place name.now)) }
+        ensures new { OnOk result (sort_number self.now name.now ≡ None) }
+    {
+        let alloc = *self.levels.allocator();
+        check_new_name(alloc, kind, place, name)?;
+        match self.sort(name) {
+            Some(_) => Err(Stop::of_name(alloc, Refusal::AlreadyDeclared, place, name)),
+            None => Ok(()),
+        }
+    }
+
+    /// The number of the sort that a token names.
+    pub fn sort_of_token(&self, kind: Kind, place: Place, name: &[u8]) -> Result<u32, Stop>
+        ensures { Checks result (sort_of_token self.now (word_of kind place name.now)) }
+    {
+        let alloc = *self.levels.allocator();
+        if !is_symbol(kind) {
+            return Err(Stop::at(alloc, Refusal::BadForm, place));
+        }
+        match self.sort(name) {
+            None => Err(Stop::of_name(alloc, Refusal::UnknownName, place, name)),
+            Some(sort) => Ok(sort),
+        }
+    }
+
+    /// The number of the sort that a token names, where Bool is not supported.
+    pub fn other_sort_of_token(&self, kind: Kind, place: Place, name: &[u8]) -> Result<u32, Stop>
+        ensures { Checks result (other_sort_of_token self.now (word_of kind place name.now)) }
+    {
+        match self.sort_of_token(kind, place, name) {
+            Err(stop) => Err(stop),
+            Ok(sort) => {
+                if sort == 0 {
+                    let alloc = *self.levels.allocator();
+                    Err(Stop::at(alloc, Refusal::NotInProfile, place))
+                } else {
+                    Ok(sort)
+                }
+            }
+        }
+    }
+
     /// Declares a sort whose name is new.
     pub fn declare_sort(&mut self, name: &[u8]) -> Result<(), Memory>
         requires { sort_number self.old name.now ≡ None }
@@ -165,17 +240,34 @@ impl SessionState {
         put(&mut self.definitions, key, definition)
     }
 
+    /// What stands.
+    fn level(&self) -> Level
+        ensures { result ≡ level_of self.now }
+    {
+        Level {
+            sorts: self.sorts.len() as u32,
+            functions: self.functions.len() as u32,
+            definitions: self.definitions.len() as u32,
+        }
+    }
+
+    /// What stood when a level was opened, or what stands.
+    fn level_at(&self, n: usize) -> Level
+        ensures { result ≡ get_or self.now.levels n (level_of self.now) }
+    {
+        match self.levels.get(n) {
+            Some(level) => *level,
+            None => self.level(),
+        }
+    }
+
     /// Opens levels, where so many more may be open.
     pub fn push(&mut self, count: u32) -> Result<(), Memory>
         requires { length self.old.levels + count ≤ self.old.limits.levels }
         ensures ok { OnOk result (self.new ≡ pushed count self.old) }
         ensures err { OnErr result (self.new ≡ self.old) }
     {
-        let level = Level {
-            sorts: self.sorts.len() as u32,
-            functions: self.functions.len() as u32,
-            definitions: self.definitions.len() as u32,
-        };
+        let level = self.level();
         let wanted = self.levels.len() + count as usize;
         self.levels.resize(wanted, level)?;
         Ok(())
@@ -187,11 +279,10 @@ impl SessionState {
         ensures { self.new ≡ popped count self.old }
     {
         let kept = self.levels.len() - count as usize;
-        if let Some(level) = self.levels.get(kept) {
-            self.sorts.truncate(level.sorts as usize);
-            self.functions.truncate(level.functions as usize);
-            self.definitions.truncate(level.definitions as usize);
-        }
+        let level = self.level_at(kept);
+        self.sorts.truncate(level.sorts as usize);
+        self.functions.truncate(level.functions as usize);
+        self.definitions.truncate(level.definitions as usize);
         self.levels.truncate(kept);
     }
 
