@@ -279,7 +279,8 @@ impl Graph {
     /// Takes the last Push that stands and all after it off.
     fn drop_level(&mut self)
         requires { 0 < levels_of self.old.standing }
-        ensures { self.new ≡ record self.old { standing = before_last is_push self.old.standing } }
+        ensures gives { self.new ≡ record self.old { standing = before_last is_push self.old.standing } }
+        ensures level { levels_of self.new.standing + 1 ≡ levels_of self.old.standing }
     {
         let mut opened = false;
         while !opened {
