@@ -20,11 +20,14 @@ apart_below standing zero s t lawful is =
     subst P pair (omega (arith, two_terms standing), two_terms standing)
 apart_below standing (suc i) s t lawful is = lawful.whole.different_ends s t (Contains-slice_get (differs_of standing) i (s, t) is)
 
+stands_at : (pairs : List (ℕ × ℕ)) (i : ℕ) (d : ℕ × ℕ) → i < length pairs → slice_get pairs i ≡ Some (get_or pairs i d)
+stands_at [] i d h = absurd (omega arith)
+stands_at (x ∷ xs) zero d h = refl
+stands_at (x ∷ xs) (suc i) d h = stands_at xs i d (omega arith)
+
 -- what was read at a place stands there
-pub read_at : (pairs : List (ℕ × ℕ)) (i : ℕ) (d : ℕ × ℕ) → i < length pairs → slice_get pairs i ≡ Some (get_or pairs i d)
-read_at [] i d h = absurd (omega arith)
-read_at (x ∷ xs) zero d h = refl
-read_at (x ∷ xs) (suc i) d h = read_at xs i d (omega arith)
+pub read_at : (pairs : List (ℕ × ℕ)) (i : ℕ) (pair : ℕ × ℕ) → i < length pairs → pair ≡ get_or pairs i pair → slice_get pairs i ≡ Some pair
+read_at pairs i pair h is = stands_at pairs i pair h ∙ ap Some (sym is)
 
 pub not_both : (b : Bool) → b ≡ true → b ≡ false → ⊥
 not_both b is_true is_false = cc

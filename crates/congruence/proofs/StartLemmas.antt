@@ -1,5 +1,5 @@
 -- The marks at which operations began.
-use Rattle.std.proofs.Common.{◌≡◌, ◌≢◌, cond, ◌≤◌, ◌<◌, ◌+◌, ◌⊎◌, inl, inr, ℕ, List, [], ◌∷◌, ◌++◌, length, drop, take, slice_index, refl, sym, ◌∙◌, ap, subst, arith, length-append}
+use Rattle.std.proofs.Common.{◌≡◌, ◌≢◌, cond, ◌≤◌, ◌<◌, ◌+◌, ◌-◌, ◌⊎◌, inl, inr, ℕ, List, [], ◌∷◌, ◌++◌, length, drop, take, slice_index, refl, sym, ◌∙◌, ap, subst, arith, length-append}
 use Rattle.std.proofs.lemmas.List.Sums.{sum_by-append}
 use Rattle.std.proofs.lemmas.Grind.{common_steps}
 use Rattle.std.proofs.lemmas.List.{length-take, take-take}
@@ -102,8 +102,12 @@ module _ (old new : Classes) (starts left : List ℕ) (k start : ℕ) (is : AreS
   gives_read : now new ≡ state_at old (slice_index starts k)
   gives_read = gives ∙ ap (state_at old) (sym read)
 
-  pub log_read : (now new).log ≡ take k (now old).log
+  log_read : (now new).log ≡ take k (now old).log
   log_read = log_back old new starts k is low gives_read (kept ∙ ap (λ m. take m (notes old)) (sym read)) (λ m h. at m (omega (arith, h, read)))
+
+  -- all but the last of the operations that stood
+  pub rest_read : (log : List Done) → (now old).log ≡ log → k ≡ length log - 1 → (now new).log ≡ take (length log - 1) log
+  rest_read log is_log k_is = log_read ∙ ap (take k) is_log ∙ ap (λ n. take n log) k_is
 
   pub limit_read : (now new).limit ≡ (now old).limit
   limit_read = limit_back old new starts k is low gives_read (kept ∙ ap (λ m. take m (notes old)) (sym read)) (λ m h. at m (omega (arith, h, read)))

@@ -324,12 +324,10 @@ impl Graph {
     pub fn clash(&self) -> Option<Clash>
         ensures { IsClash self.now.standing result }
     {
-        for pair in self.apart.as_slice() {
-            if self.same(pair.0, pair.1) {
-                return Some(Clash {
-                    left: pair.0,
-                    right: pair.1,
-                });
+        for i in 0..self.apart.len() {
+            let (left, right) = self.apart[i];
+            if self.same(left, right) {
+                return Some(Clash { left, right });
             }
         }
         None

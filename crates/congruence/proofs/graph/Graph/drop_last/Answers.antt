@@ -6,9 +6,8 @@ use Rattle.congruence.specs.Clash.{apart_of}
 use Rattle.congruence.specs.Last.{DropsLast, IsLastShare}
 use Rattle.congruence.proofs.LastLemmas.{levels_left, triggers_few, apart_few, triggers_left, apart_left, drops_last}
 use Rattle.congruence.proofs.ReadLemmas.{read_is}
-use Rattle.congruence.proofs.StartLemmas.{log_read, limit_read, AreStarts-read}
+use Rattle.congruence.proofs.StartLemmas.{rest_read, limit_read, AreStarts-read}
 use Rattle.congruence.proofs.graph.Graph.drop_last.Goals as goal
-use Rattle.congruence.proofs.graph.Graph.drop_last.Goals.{After-self-1}
 
 pub overflow_sub-len : goal.overflow_sub-len
 overflow_sub-len c =
@@ -19,49 +18,47 @@ pub overflow_sub-self : goal.overflow_sub-self
 overflow_sub-self c =
     omega (arith, levels_left c.args.self.now.standing c.last_share-share.result c.requires c.last_share-share.ensures, c.self.invariant.levels, ap (λ (g : GraphState). levels_of g.standing) c.self.view_is)
 
--- how many operations are left
-count_is : (c : After-self-1) → c.len-count.result - 1 ≡ length c.args.self.now.standing - 1
-count_is c = omega (arith, c.len-count.ensures, c.self.inside.starts.ok.0, c.self.invariant.starts.each, ap (λ (g : GraphState). length g.standing) c.self.view_is)
-
-low : (c : After-self-1) → c.len-count.result - 1 < length c.self.inside.starts.items
-low c = omega (arith, c.requires, c.len-count.ensures, c.self.inside.starts.ok.0, c.self.invariant.starts.each, ap (λ (g : GraphState). length g.standing) c.self.view_is)
-
-read : (c : After-self-1) → slice_index c.self.inside.starts.items (c.len-count.result - 1) ≡ c.index-start.result.now
-read c = read_is c.self.inside.starts.items (c.len-count.result - 1) c.index-start.result.now (low c) c.index-start.ensures
-
-left : (c : After-self-1) → (now c.back_to.new.self).log ≡ take (length c.args.self.now.standing - 1) c.args.self.now.standing
-left c =
-    log_read c.self.inside.classes c.back_to.new.self c.self.inside.starts.items c.truncate.new.self.items (c.len-count.result - 1) c.index-start.result.now c.self.invariant.starts (low c) (read c) c.back_to.ensures.gives c.back_to.ensures.kept c.back_to.ensures.at c.truncate.ensures.items
-    ∙ ap (λ (g : GraphState). take (c.len-count.result - 1) g.standing) c.self.view_is
-    ∙ ap (λ n. take n c.args.self.now.standing) (count_is c)
-
 pub invariant_of-self : goal.invariant_of-self
 invariant_of-self c =
     let log = c.args.self.now.standing in
     let share = c.last_share-share.result in
-    let live = c.self.invariant.live ∙ ap (λ (g : GraphState). triggers_of g.standing) c.self.view_is in
-    let apart = c.self.invariant.apart ∙ ap (λ (g : GraphState). apart_of g.standing) c.self.view_is in
+    let few = c.requires in
+    let is_log = ap (λ (g : GraphState). g.standing) c.self.view_is in
+    let low : c.len-count.result - 1 < length c.self.inside.starts.items = omega (arith, few, c.len-count.ensures, c.self.inside.starts.ok.0, c.self.invariant.starts.each, ap length is_log) in
+    let count : c.len-count.result - 1 ≡ length log - 1 = omega (arith, c.len-count.ensures, c.self.inside.starts.ok.0, c.self.invariant.starts.each, ap length is_log) in
+    let read = read_is c.self.inside.starts.items (c.len-count.result - 1) c.index-start.result.now low c.index-start.ensures in
+    let left = rest_read c.self.inside.classes c.back_to.new.self c.self.inside.starts.items c.truncate.new.self.items (c.len-count.result - 1) c.index-start.result.now c.self.invariant.starts low read c.back_to.ensures.gives c.back_to.ensures.kept c.back_to.ensures.at c.truncate.ensures.items log is_log count in
+    let live = c.self.invariant.live ∙ ap triggers_of is_log in
+    let apart = c.self.invariant.apart ∙ ap apart_of is_log in
     let live_len : c.len.result ≡ length (triggers_of log) = omega (arith, ap length live, c.len.ensures, c.self.inside.live.ok.0) in
     let apart_len : c.len-2.result ≡ length (apart_of log) = omega (arith, ap length apart, c.len-2.ensures, c.self.inside.apart.ok.0) in
     record {
-      starts = AreStarts-read c.self.inside.classes c.back_to.new.self c.self.inside.starts.items c.truncate.new.self.items (c.len-count.result - 1) c.index-start.result.now c.self.invariant.starts (low c) (read c) c.back_to.ensures.gives c.back_to.ensures.kept c.back_to.ensures.at c.truncate.ensures.items;
-      levels = omega (arith, levels_left log share c.requires c.last_share-share.ensures, c.self.invariant.levels, ap (λ (g : GraphState). levels_of g.standing) c.self.view_is, ap levels_of (left c));
+      starts = AreStarts-read c.self.inside.classes c.back_to.new.self c.self.inside.starts.items c.truncate.new.self.items (c.len-count.result - 1) c.index-start.result.now c.self.invariant.starts low read c.back_to.ensures.gives c.back_to.ensures.kept c.back_to.ensures.at c.truncate.ensures.items;
+      levels = omega (arith, levels_left log share few c.last_share-share.ensures, c.self.invariant.levels, ap levels_of is_log, ap levels_of left);
       live = c.truncate-2.ensures.items
           ∙ ap (λ n. take (n - share.triggers) c.self.inside.live.items) live_len
           ∙ ap (take (length (triggers_of log) - share.triggers)) live
-          ∙ triggers_left log share c.requires c.last_share-share.ensures
-          ∙ ap triggers_of (sym (left c));
+          ∙ triggers_left log share few c.last_share-share.ensures
+          ∙ ap triggers_of (sym left);
       apart = c.truncate-3.ensures.items
           ∙ ap (λ n. take (n - share.differs) c.self.inside.apart.items) apart_len
           ∙ ap (take (length (apart_of log) - share.differs)) apart
-          ∙ apart_left log share c.requires c.last_share-share.ensures
-          ∙ ap apart_of (sym (left c));
+          ∙ apart_left log share few c.last_share-share.ensures
+          ∙ ap apart_of (sym left);
       room = omega (arith, c.self.invariant.room);
     }
 
 pub returns : goal.returns
 returns c =
-    drops_last c.args.self.now.standing c.last_share-share.result c.requires c.last_share-share.ensures c.args.self.now _ c.last_share-share.result.opens refl (left c)
+    let log = c.args.self.now.standing in
+    let share = c.last_share-share.result in
+    let few = c.requires in
+    let is_log = ap (λ (g : GraphState). g.standing) c.self.view_is in
+    let low : c.len-count.result - 1 < length c.self.inside.starts.items = omega (arith, few, c.len-count.ensures, c.self.inside.starts.ok.0, c.self.invariant.starts.each, ap length is_log) in
+    let count : c.len-count.result - 1 ≡ length log - 1 = omega (arith, c.len-count.ensures, c.self.inside.starts.ok.0, c.self.invariant.starts.each, ap length is_log) in
+    let read = read_is c.self.inside.starts.items (c.len-count.result - 1) c.index-start.result.now low c.index-start.ensures in
+    let left = rest_read c.self.inside.classes c.back_to.new.self c.self.inside.starts.items c.truncate.new.self.items (c.len-count.result - 1) c.index-start.result.now c.self.invariant.starts low read c.back_to.ensures.gives c.back_to.ensures.kept c.back_to.ensures.at c.truncate.ensures.items log is_log count in
+    drops_last log share few c.last_share-share.ensures c.args.self.now _ share.opens refl left
     (ap (λ (g : GraphState). g.done) c.self.view_is)
-    (limit_read c.self.inside.classes c.back_to.new.self c.self.inside.starts.items c.truncate.new.self.items (c.len-count.result - 1) c.index-start.result.now c.self.invariant.starts (low c) (read c) c.back_to.ensures.gives c.back_to.ensures.kept c.back_to.ensures.at c.truncate.ensures.items ∙ ap (λ (g : GraphState). g.limit) c.self.view_is)
+    (limit_read c.self.inside.classes c.back_to.new.self c.self.inside.starts.items c.truncate.new.self.items (c.len-count.result - 1) c.index-start.result.now c.self.invariant.starts low read c.back_to.ensures.gives c.back_to.ensures.kept c.back_to.ensures.at c.truncate.ensures.items ∙ ap (λ (g : GraphState). g.limit) c.self.view_is)
     refl
