@@ -1,5 +1,5 @@
 -- Pairs that are kept apart, looked through in order.
-use Rattle.std.proofs.Common.{◌≡◌, ◌≤◌, ◌<◌, ◌+◌, ◌⊎◌, inl, inr, ℕ, List, [], ◌∷◌, length, Some, zero, suc, slice_get, slice_index_or, get_or, Contains, refl, sym, ◌∙◌, ap, subst, arith}
+use Rattle.std.proofs.Common.{◌≡◌, ◌≤◌, ◌<◌, ◌+◌, ◌⊎◌, inl, inr, ℕ, List, [], ◌∷◌, length, Some, Bool, true, false, zero, suc, slice_get, slice_index_or, get_or, Contains, refl, sym, ◌∙◌, ap, subst, arith}
 use Rattle.std.proofs.lemmas.Option.{slice_get_within}
 use Rattle.term_table.specs.declared.done.Done.{Done}
 use Rattle.term_table.specs.Lawful.{IsLawful}
@@ -15,16 +15,22 @@ two_terms standing = omega arith
 pub apart_below : (standing : List Done) (i s t : ℕ) → IsLawful standing → slice_get (apart_of standing) i ≡ Some (s, t) → (s < length (terms_of standing)) × (t < length (terms_of standing))
 apart_below standing zero s t lawful is =
     let two = two_terms standing in
-    let first : s ≡ 0 = cc in
-    let second : t ≡ 1 = cc in
-    (omega arith, omega arith)
+    let pair : (0, 1) ≡ (s, t) = cc in
+    let P : ℕ × ℕ → Type 0 = λ p. (p.0 < length (terms_of standing)) × (p.1 < length (terms_of standing)) in
+    subst P pair (omega (arith, two_terms standing), two_terms standing)
 apart_below standing (suc i) s t lawful is = lawful.whole.different_ends s t (Contains-slice_get (differs_of standing) i (s, t) is)
 
+stands_at : (pairs : List (ℕ × ℕ)) (i : ℕ) (d : ℕ × ℕ) → i < length pairs → slice_get pairs i ≡ Some (get_or pairs i d)
+stands_at [] i d h = absurd (omega arith)
+stands_at (x ∷ xs) zero d h = refl
+stands_at (x ∷ xs) (suc i) d h = stands_at xs i d (omega arith)
+
 -- what was read at a place stands there
-pub read_at : (pairs : List (ℕ × ℕ)) (i : ℕ) (pair d : ℕ × ℕ) → i < length pairs → pair ≡ get_or pairs i d → slice_get pairs i ≡ Some pair
-read_at [] i pair d h is = absurd (omega arith)
-read_at (x ∷ xs) zero pair d h is = ap Some (sym is)
-read_at (x ∷ xs) (suc i) pair d h is = read_at xs i pair d (omega arith) is
+pub read_at : (pairs : List (ℕ × ℕ)) (i : ℕ) (pair : ℕ × ℕ) → i < length pairs → pair ≡ get_or pairs i pair → slice_get pairs i ≡ Some pair
+read_at pairs i pair h is = stands_at pairs i pair h ∙ ap Some (sym is)
+
+pub not_both : (b : Bool) → b ≡ true → b ≡ false → ⊥
+not_both b is_true is_false = cc
 
 -- one pair more isn't the same
 pub none_more : (standing : List Done) (pairs : List (ℕ × ℕ)) (k s t : ℕ) → NoneSame standing pairs k → slice_get pairs k ≡ Some (s, t) → (Same standing s t → ⊥) → NoneSame standing pairs (k + 1)

@@ -83,9 +83,9 @@ some_of_levels (done ∷ log) h = omega arith
 -- ---- the last level taken off, operation by operation
 
 levels_of-one : (last : Done) (b : Bool) → is_push last ≡ b → levels_of (last ∷ []) ≡ cond b 1 0
-levels_of-one last b is = ap (λ c. cond c 1 0 + 0) is ∙ each b
+levels_of-one last b is = ap (λ c. 0 + cond c 1 0) is ∙ each b
   where
-    each : (c : Bool) → cond c 1 0 + 0 ≡ cond c 1 0
+    each : (c : Bool) → 0 + cond c 1 0 ≡ cond c 1 0
     each true = refl
     each false = refl
 

@@ -1,5 +1,5 @@
 -- The marks at which operations began.
-use Rattle.std.proofs.Common.{◌≡◌, ◌≢◌, cond, ◌≤◌, ◌<◌, ◌+◌, ◌⊎◌, inl, inr, ℕ, List, [], ◌∷◌, ◌++◌, length, drop, take, slice_index, refl, sym, ◌∙◌, ap, subst, arith, length-append}
+use Rattle.std.proofs.Common.{◌≡◌, ◌≢◌, cond, ◌≤◌, ◌<◌, ◌+◌, ◌-◌, ◌⊎◌, inl, inr, ℕ, List, [], ◌∷◌, ◌++◌, length, drop, take, slice_index, refl, sym, ◌∙◌, ap, subst, arith, length-append}
 use Rattle.std.proofs.lemmas.List.Sums.{sum_by-append}
 use Rattle.std.proofs.lemmas.Grind.{common_steps}
 use Rattle.std.proofs.lemmas.List.{length-take, take-take}
@@ -96,6 +96,26 @@ module _ (old new : Classes) (starts : List ℕ) (k : ℕ) (is : AreStarts old s
         rw (index_take starts k i w) (HasStood-same _ _ _ _ _ _ (at (slice_index starts i) mark) (ap (take i) log_back ∙ take-take i k (now old).log (omega arith)) limit_back (is.stood i (omega arith)));
     good = let P : State → Type 0 = λ m. IsGood m in subst P (sym gives) (is.stood k low).good;
   }
+
+-- the same, where the mark was read
+module _ (old new : Classes) (starts left : List ℕ) (k start : ℕ) (is : AreStarts old starts) (low : k < length starts) (read : slice_index starts k ≡ start) (gives : now new ≡ state_at old start) (kept : notes new ≡ take start (notes old)) (at : (m : ℕ) → m ≤ start → state_at new m ≡ state_at old m) (is_left : left ≡ take k starts) where
+  gives_read : now new ≡ state_at old (slice_index starts k)
+  gives_read = gives ∙ ap (state_at old) (sym read)
+
+  log_read : (now new).log ≡ take k (now old).log
+  log_read = log_back old new starts k is low gives_read (kept ∙ ap (λ m. take m (notes old)) (sym read)) (λ m h. at m (omega (arith, h, read)))
+
+  -- all but the last of the operations that stood
+  pub rest_read : (log : List Done) → (now old).log ≡ log → k ≡ length log - 1 → (now new).log ≡ take (length log - 1) log
+  rest_read log is_log k_is = log_read ∙ ap (take k) is_log ∙ ap (λ n. take n log) k_is
+
+  pub limit_read : (now new).limit ≡ (now old).limit
+  limit_read = limit_back old new starts k is low gives_read (kept ∙ ap (λ m. take m (notes old)) (sym read)) (λ m h. at m (omega (arith, h, read)))
+
+  pub AreStarts-read : AreStarts new left
+  AreStarts-read =
+      let P : List ℕ → Type 0 = λ xs. AreStarts new xs in
+      subst P (sym is_left) (AreStarts-back old new starts k is low gives_read (kept ∙ ap (λ m. take m (notes old)) (sym read)) (λ m h. at m (omega (arith, h, read))))
 
 -- the levels once an operation came last
 pub levels_of-then : (log : List Done) (serial : ℕ) (op : Op) (opened : ℕ) → levels_of (record { serial = serial; op = op } ∷ []) ≡ opened → levels_of (then_op log serial op) ≡ levels_of log + opened

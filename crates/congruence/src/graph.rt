@@ -91,7 +91,8 @@ impl Graph {
 
     /// How many terms it may have. Takes no memory.
     pub fn limit(&self) -> u32
-        ensures { result ≡ self.now.limit }
+        ensures value { result ≡ self.now.limit }
+        ensures within { length (terms_of self.now.standing) ≤ self.now.limit }
     {
         let classes = &self.classes;
         classes.parts.rows.limit()
@@ -142,8 +143,8 @@ impl Graph {
         Ok(added)
     }
 
-    /// The term of a row, which is entered with all that follows where it is new. After a fault the graph is as before.
-    pub fn add(&mut self, symbol: u32, args: &[u32]) -> Result<Added, TableFault>
+    /// The term of a row, which is entered with all that follows where it is new.
+    fn enter(&mut self, symbol: u32, args: &[u32]) -> Result<Added, TableFault>
         requires terms { All (λ arg. arg < length (terms_of self.old.standing)) args.now }
         requires few { length args.now ≤ 255 }
         ensures added { IfOk result (λ added. Adds self.old self.new (term_row symbol args.now) added.term added.unions added.fresh) }
@@ -158,6 +159,21 @@ impl Graph {
             }),
             None => self.add_new(symbol, args),
         }
+    }
+
+    /// The term of a row, which is entered with all that follows where it is new. `Full` comes where it is new and as many
+    /// terms stand as may. After a fault the graph is as before.
+    pub fn add(&mut self, symbol: u32, args: &[u32]) -> Result<Added, TableFault>
+        requires terms { All (λ arg. arg < length (terms_of self.old.standing)) args.now }
+        requires few { length args.now ≤ 255 }
+        ensures added { IfOk result (λ added. Adds self.old self.new (term_row symbol args.now) added.term added.unions added.fresh) }
+        ensures within { length (terms_of self.new.standing) ≤ self.new.limit }
+        ensures full { result ≡ Err TableFault.Full → IsFull (table_of self.old) (term_row symbol args.now) }
+        ensures err { OnErr result (self.new ≡ self.old) }
+    {
+        let added = self.enter(symbol, args);
+        let _limit = self.limit();
+        added
     }
 
     /// Merges two terms, with all that follows, and lists the unions. Without memory the graph is as before.
@@ -279,7 +295,8 @@ impl Graph {
     /// Takes the last Push that stands and all after it off.
     fn drop_level(&mut self)
         requires { 0 < levels_of self.old.standing }
-        ensures { self.new ≡ record self.old { standing = before_last is_push self.old.standing } }
+        ensures gives { self.new ≡ record self.old { standing = before_last is_push self.old.standing } }
+        ensures level { levels_of self.new.standing + 1 ≡ levels_of self.old.standing }
     {
         let mut opened = false;
         while !opened {
@@ -323,12 +340,10 @@ impl Graph {
     pub fn clash(&self) -> Option<Clash>
         ensures { IsClash self.now.standing result }
     {
-        for pair in self.apart.as_slice() {
-            if self.same(pair.0, pair.1) {
-                return Some(Clash {
-                    left: pair.0,
-                    right: pair.1,
-                });
+        for i in 0..self.apart.len() {
+            let (left, right) = self.apart[i];
+            if self.same(left, right) {
+                return Some(Clash { left, right });
             }
         }
         None
@@ -373,9 +388,8 @@ impl Graph {
         }
     }
 
-    /// Does the operation. `Full` comes where it adds a term and as many stand as may. After a fault the graph is as
-    /// before. A Pop always succeeds.
-    pub fn apply(&mut self, op: &Op) -> Result<(), TableFault>
+    /// Does the operation.
+    fn try_op(&mut self, op: &Op) -> Result<(), TableFault>
         requires { Allows self.old.standing op.now }
         ensures ok { OnOk result (self.new ≡ state_after self.old op.now) }
         ensures full { result ≡ Err TableFault.Full → IsFullFor (table_of self.old) op.now }
@@ -395,6 +409,20 @@ impl Graph {
             Op::Pop => self.pop(),
         }
         Ok(())
+    }
+    /// Does the operation. `Full` comes where it adds a term and as many stand as may. After a fault the graph is as
+    /// before. A Pop always succeeds.
+    pub fn apply(&mut self, op: &Op) -> Result<(), TableFault>
+        requires { Allows self.old.standing op.now }
+        ensures ok { OnOk result (self.new ≡ state_after self.old op.now) }
+        ensures within { length (terms_of self.new.standing) ≤ self.new.limit }
+        ensures full { result ≡ Err TableFault.Full → IsFullFor (table_of self.old) op.now }
+        ensures pop { op.now ≡ PopOp → IsOk result }
+        ensures err { OnErr result (self.new ≡ self.old) }
+    {
+        let done = self.try_op(op);
+        let _limit = self.limit();
+        done
     }
 }
 

@@ -1,7 +1,7 @@
 use Rattle.std.proofs.Common.{refl}
 use Rattle.congruence.specs.Operations.{old_row}
 use Rattle.congruence.proofs.AddedLemmas.{Adds-new}
-use Rattle.congruence.proofs.graph.Graph.add.Goals as goal
+use Rattle.congruence.proofs.graph.Graph.enter.Goals as goal
 
 pub returns-in-Some-clause-added : goal.returns-in-Some-clause-added
 returns-in-Some-clause-added c = old_row c.in-Some.ensures.found refl c.new.ensures
