@@ -65,13 +65,13 @@ pub returns-in-Some-clause-answers : goal.returns-in-Some-clause-answers
 returns-in-Some-clause-answers g c =
     refused_bytes c.args.limits.now (g.I.Source.left c.args.input.now) (g.I.Source.left c.loop-tree.input) (g.I.Source.left c.next_tree.new.source) (g.O.Sink.written c.args.out.now) (g.O.Sink.written c.loop-tree.out) (g.O.Sink.written c.refuse_bytes.new.out)
     (run_state c.loop-tree.session c.loop-tree.graph) c.loop-tree.reader c.next_tree.new.self c.loop-tree.invariant.reached c.in-Err.fault c.in-Some.byte c.refuse_bytes.result
-    ?
+    (sym c.in_bytes.ensures ∙ c.in-Some.is)
     (c.in-Err.ensures.reads c.loop-tree.invariant.no_fault) c.refuse_bytes.ensures.writes
 
-pub returns-in_default-clause-answers : goal.returns-in_default-clause-answers
-returns-in_default-clause-answers g c =
+pub returns-in_default-fault-clause-answers : goal.returns-in_default-fault-clause-answers
+returns-in_default-fault-clause-answers g c =
     other_fault c.args.limits.now (g.I.Source.left c.args.input.now) (g.I.Source.left c.loop-tree.input) (g.I.Source.left c.next_tree.new.source) (g.O.Sink.written c.args.out.now) (g.O.Sink.written c.loop-tree.out) (g.O.Sink.written c.loop-tree.out)
-    (run_state c.loop-tree.session c.loop-tree.graph) c.loop-tree.reader c.next_tree.new.self c.loop-tree.invariant.reached c.in-Err.fault ? c.in_default.not-ReadFault (c.in-Err.ensures.reads c.loop-tree.invariant.no_fault)
+    (run_state c.loop-tree.session c.loop-tree.graph) c.loop-tree.reader c.next_tree.new.self c.loop-tree.invariant.reached c.in-Err.fault (sym c.in_bytes.ensures ∙ c.in-None.is) c.in_default-fault.not-ReadFault (c.in-Err.ensures.reads c.loop-tree.invariant.no_fault)
 
 pub loop-tree-init : goal.loop-tree-init
 loop-tree-init g c =

@@ -3,7 +3,7 @@ use Rattle.std.proofs.lemmas.List.{take-append-drop}
 use Rattle.ematch_cli.proofs.script.refuse.Goals as goal
 
 pub returns-in-Ok-clause-writes : goal.returns-in-Ok-clause-writes
-returns-in-Ok-clause-writes g c = record { is = inl refl; whole = λ _. c.in-Ok.ensures.ok; front = λ no. absurd (no refl) }
+returns-in-Ok-clause-writes g c = record { is = inl refl; whole = λ _. c.in-Ok.ensures.all; front = λ no. absurd (no refl) }
 
 pub returns-in-Err-clause-writes : goal.returns-in-Err-clause-writes
 returns-in-Err-clause-writes g c = record {
