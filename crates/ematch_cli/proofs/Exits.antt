@@ -8,29 +8,32 @@ use Rattle.em_outside.specs.BytesLaws.{Appended-none, Appended-then, Consumes-to
 use Rattle.em_outside.specs.declared.limits.Limits.{Limits}
 use Rattle.smt_text.specs.Word.{Word}
 use Rattle.smt_text.specs.Script.{Script, End, Fault, Command, IsOpen, script_of}
-use Rattle.smt_text.specs.ByteFault.{IsLasting}
-use Rattle.smt_text.specs.Reading.{Reading, script, Reads, Refuses, AtByte, AtEnd}
+use Rattle.smt_text.specs.ByteFault.{IsLasting, text_fault, in_bytes}
+use Rattle.smt_text.specs.Reading.{Reading, script, Reads, Refuses, AtByte, AtEnd, Answers as ReaderAnswers}
 use Rattle.smt_text.specs.declared.byte_fault.ByteFault.{ByteFault}
-use Rattle.smt_text.specs.declared.byte_fault.ByteFault.TheVariants.{Unclosed}
+use Rattle.smt_text.specs.declared.byte_fault.ByteFault.TheVariants.{BadByte, Unclosed, Stray, TooDeep, TooLong}
 use Rattle.smt_text.specs.declared.token.Place.{Place}
+use Rattle.smt_text.specs.declared.fault.TextFault.{TextFault}
 use Rattle.smt_text.specs.declared.fault.TextFault.TheVariants as fault
 use Rattle.ematch_cli.specs.Run.{RunState, Replies, IsRefused}
-use Rattle.ematch_cli.specs.Output.{Answer, Ending, Open, Finished, Failed, IsAnswer, behind, refusal, silence, at_end, not_built, opening, IsOutput, IsOutputSoFar}
+use Rattle.ematch_cli.specs.Output.{Answer, Ending, Open, Finished, Failed, IsAnswer, behind, failure, silence, at_end, opening, IsOutput, IsOutputSoFar}
+use Rattle.ematch_cli.specs.ErrorLine.{fault_line, not_built}
+use Rattle.ematch_cli.specs.WritesError.{WritesError}
 use Rattle.ematch_cli.specs.Headline.{Wrote, BeginsWith, WroteFront, WroteFrontOf, Stands, IsUndisturbed, Answers}
 use Rattle.ematch_cli.specs.declared.status.Status.{Status}
 use Rattle.ematch_cli.specs.declared.status.Status.TheVariants as status
 use Rattle.ematch_cli.proofs.OneAnswer.{answer_once}
 use Rattle.ematch_cli.proofs.Reached.{Reached, ahead, reached_read, reached_reply, answered, answered_taken, answered_only, ends_only, no_memory, open_failed, finished_failed, open_answer, open_only, fault_answer, end_answer, end_only, refused_answer, reply_begins, unclosed}
 
--- how a run ends that has an error to write
-pub record WritesError (out1 out2 : Option (List ℕ)) (s : Status) : Type 0 where
-  pub is : (s ≡ status.ScriptError) ⊎ (s ≡ status.WriteFault)
-  pub whole : s ≡ status.ScriptError → Appended out1 out2 not_built
-  pub front : s ≡ status.WriteFault → WroteFront out1 out2 not_built
+by_status : (s : Status) (P : Status → Type 0) → (s ≡ status.ScriptError) ⊎ ((s ≡ status.WriteFault) ⊎ (s ≡ status.NoMemory))
+    → (s ≡ status.ScriptError → P status.ScriptError) → (s ≡ status.WriteFault → P status.WriteFault) → (s ≡ status.NoMemory → P status.NoMemory) → P s
+by_status s P (inl is) error write memory = subst P (sym is) (error is)
+by_status s P (inr (inl is)) error write memory = subst P (sym is) (write is)
+by_status s P (inr (inr is)) error write memory = subst P (sym is) (memory is)
 
-by_status : (s : Status) (P : Status → Type 0) → (s ≡ status.ScriptError) ⊎ (s ≡ status.WriteFault) → (s ≡ status.ScriptError → P status.ScriptError) → (s ≡ status.WriteFault → P status.WriteFault) → P s
-by_status s P (inl is) error write = subst P (sym is) (error is)
-by_status s P (inr is) error write = subst P (sym is) (write is)
+no_error : (s : Status) → (s ≡ status.WriteFault) ⊎ (s ≡ status.NoMemory) → s ≢ status.ScriptError
+no_error s (inl is) error = cc
+no_error s (inr is) error = cc
 
 -- a front behind a text is a front of what is behind it
 begins_behind : (text front bytes : List ℕ) → BeginsWith front bytes → BeginsWith (text ++ front) (text ++ bytes)
@@ -54,8 +57,8 @@ module _ (limits : Limits) (in0 in1 out0 out1 out2 : Option (List ℕ)) (now : R
       → Wrote out0 out2 (IsAnswer known (script_of limits bytes) (opening limits)) end.ending
   whole_of known bytes end is wrote = (behind reached.text end, is, refl, Appended-then out0 out1 out2 reached.text end.bytes reached.wrote wrote)
 
-  refused_begins : (known : Bool) → IsAnswer known (rest []) now refusal → (after : Answer) → IsAnswer known (rest []) now after → BeginsWith not_built after.bytes
-  refused_begins known is after answered' = ([], ap (λ (a : Answer). a.bytes) (answer_once known (rest []) now after refusal answered' is) ∙ sym (append-nil not_built))
+  failure_begins : (known : Bool) (line : List ℕ) → IsAnswer known (rest []) now (failure line) → (after : Answer) → IsAnswer known (rest []) now after → BeginsWith line after.bytes
+  failure_begins known line is after answered' = ([], ap (λ (a : Answer). a.bytes) (answer_once known (rest []) now after (failure line) answered' is) ∙ sym (append-nil line))
 
   told : (P : List ℕ → Type 0) → ((more : List ℕ) → P (reached.taken ++ more)) → (input : Option (List ℕ)) → input ≡ in0 → IfSome input P
   told P each None is = tt
@@ -64,15 +67,15 @@ module _ (limits : Limits) (in0 in1 out0 out1 out2 : Option (List ℕ)) (now : R
       subst P (sym parts.2) (each parts.0)
 
   -- the line of an error, whatever comes behind
-  pub error_line : (s : Status) → WritesError out1 out2 s → ((known : Bool) (more : List ℕ) → IsAnswer known (rest more) now refusal) → Answers limits in0 in1 out0 out2 s
-  error_line s writes fails = by_status s (λ t. Answers limits in0 in1 out0 out2 t) writes.is
+  pub error_line : (line : List ℕ) (s : Status) → WritesError line out1 out2 s → ((known : Bool) (more : List ℕ) → IsAnswer known (rest more) now (failure line)) → Answers limits in0 in1 out0 out2 s
+  error_line line s writes fails = by_status s (λ t. Answers limits in0 in1 out0 out2 t) writes.is
       (λ e. record {
         taken = reached.taken;
         given = reached.given;
         stands = (
-          inl (whole_of false reached.taken refusal (answered_taken limits in0 in1 out0 out1 now rest reached false refusal (fails false [])) (writes.whole e)),
+          inl (whole_of false reached.taken (failure line) (answered_taken limits in0 in1 out0 out1 now rest reached false (failure line) (fails false [])) (writes.whole e)),
           told (λ all. Wrote out0 out2 (IsOutput limits all) Failed)
-              (λ more. whole_of true (reached.taken ++ more) refusal (answered limits in0 in1 out0 out1 now rest reached true more refusal (fails true more)) (writes.whole e)) in0 refl,
+              (λ more. whole_of true (reached.taken ++ more) (failure line) (answered limits in0 in1 out0 out1 now rest reached true more (failure line) (fails true more)) (writes.whole e)) in0 refl,
         );
         error_so_far = λ answer is failed calm. refl;
         error_at_end = λ answer is failed calm no_read. refl;
@@ -80,16 +83,23 @@ module _ (limits : Limits) (in0 in1 out0 out1 out2 : Option (List ℕ)) (now : R
       (λ e. record {
         taken = reached.taken;
         given = reached.given;
-        stands = inl (front_of false not_built (refused_begins false (fails false [])) (writes.front e));
+        stands = inl (front_of false line (failure_begins false line (fails false [])) (writes.front (no_error s (inl e))));
         error_so_far = λ answer is failed calm. absurd (calm.0 refl);
         error_at_end = λ answer is failed calm no_read. absurd (calm.0 refl);
       })
+      (λ e. record {
+        taken = reached.taken;
+        given = reached.given;
+        stands = inl (front_of false line (failure_begins false line (fails false [])) (writes.front (no_error s (inr e))));
+        error_so_far = λ answer is failed calm. absurd (calm.1 refl);
+        error_at_end = λ answer is failed calm no_read. absurd (calm.1 refl);
+      })
 
   -- the line of an error that the end of the input makes
-  pub end_line : (s : Status) → WritesError out1 out2 s → Exhausts in0 reached.taken → IsAnswer true (rest []) now refusal → Answers limits in0 in1 out0 out2 s
-  end_line s writes all fails = by_status s (λ t. Answers limits in0 in1 out0 out2 t) writes.is
+  pub end_line : (line : List ℕ) (s : Status) → WritesError line out1 out2 s → Exhausts in0 reached.taken → IsAnswer true (rest []) now (failure line) → Answers limits in0 in1 out0 out2 s
+  end_line line s writes all fails = by_status s (λ t. Answers limits in0 in1 out0 out2 t) writes.is
       (λ e.
-      let wrote : Wrote out0 out2 (IsOutput limits reached.taken) Failed = whole_of true reached.taken refusal (answered_taken limits in0 in1 out0 out1 now rest reached true refusal fails) (writes.whole e) in
+      let wrote : Wrote out0 out2 (IsOutput limits reached.taken) Failed = whole_of true reached.taken (failure line) (answered_taken limits in0 in1 out0 out1 now rest reached true (failure line) fails) (writes.whole e) in
       record {
         taken = reached.taken;
         given = reached.given;
@@ -100,9 +110,16 @@ module _ (limits : Limits) (in0 in1 out0 out1 out2 : Option (List ℕ)) (now : R
       (λ e. record {
         taken = reached.taken;
         given = reached.given;
-        stands = inr (all, front_of true not_built (refused_begins true fails) (writes.front e));
+        stands = inr (all, front_of true line (failure_begins true line fails) (writes.front (no_error s (inl e))));
         error_so_far = λ answer is failed calm. absurd (calm.0 refl);
         error_at_end = λ answer is failed calm no_read. absurd (calm.0 refl);
+      })
+      (λ e. record {
+        taken = reached.taken;
+        given = reached.given;
+        stands = inr (all, front_of true line (failure_begins true line fails) (writes.front (no_error s (inr e))));
+        error_so_far = λ answer is failed calm. absurd (calm.1 refl);
+        error_at_end = λ answer is failed calm no_read. absurd (calm.1 refl);
       })
     where
       at_whole : (input : Option (List ℕ)) → Exhausts input reached.taken → Wrote out0 out2 (IsOutput limits reached.taken) Failed → IfSome input (λ all. Wrote out0 out2 (IsOutput limits all) Failed)
@@ -149,6 +166,17 @@ module _ (limits : Limits) (in0 in1 out0 out1 : Option (List ℕ)) (now : RunSta
     error_at_end = λ answer is failed calm no_read. absurd (no_read refl);
   }
 
+-- the fault of the bytes that a fault of the reader is
+back : (b : ByteFault) → in_bytes (text_fault b) ≡ Some b
+back (BadByte place) = refl
+back (Unclosed place) = refl
+back (Stray place) = refl
+back (TooDeep place) = refl
+back (TooLong place) = refl
+
+same_byte : (f : TextFault) (b byte : ByteFault) → f ≡ text_fault b → in_bytes f ≡ Some byte → b ≡ byte
+same_byte f b byte same has = let both : Some b ≡ Some byte = sym (back b) ∙ ap in_bytes (sym same) ∙ has in cc
+
 -- what a run answers after a call of its reader
 module _ (limits : Limits) (in0 in1 in2 out0 out1 out2 : Option (List ℕ)) (now : RunState) (old new : Reading) (reached : Reached limits in0 in1 out0 out1 now (ahead old)) where
   abbrev behind_taken : List ℕ → List ℕ → Script
@@ -179,16 +207,40 @@ module _ (limits : Limits) (in0 in1 in2 out0 out1 out2 : Option (List ℕ)) (now
   pub next : (words : List Word) (later : RunState) (text : List ℕ) → Reads old new in1 in2 (Ok (Some words)) → Replies now words later text → Appended out1 out2 text → Reached limits in0 in2 out0 out2 later (ahead new)
   next words later text r replies wrote = reached_reply limits in0 in2 out0 out1 out2 now later words text (behind_taken r.taken) (ahead new) (after r.taken r.given) r.answer.first replies wrote
 
-  pub refused_command : (words : List Word) (s : Status) → Reads old new in1 in2 (Ok (Some words)) → IsRefused now words → WritesError out1 out2 s → Answers limits in0 in2 out0 out2 s
-  refused_command words s r refused writes = error_line limits in0 in2 out0 out1 out2 now (behind_taken r.taken) (after r.taken r.given) s writes
-      (λ known more. subst (λ (t : Script). IsAnswer known t now refusal) (sym (r.answer.first more)) (refused_answer known words (script new (new.held ++ more)) now refused))
+  pub refused_command : (words : List Word) (s : Status) → Reads old new in1 in2 (Ok (Some words)) → IsRefused now words → WritesError not_built out1 out2 s → Answers limits in0 in2 out0 out2 s
+  refused_command words s r refused writes = error_line limits in0 in2 out0 out1 out2 now (behind_taken r.taken) (after r.taken r.given) not_built s writes
+      (λ known more. subst (λ (t : Script). IsAnswer known t now (failure not_built)) (sym (r.answer.first more)) (refused_answer known words (script new (new.held ++ more)) now refused))
 
-  refused_at : (place : Place) (s : Status) (taken : List ℕ) (given : Consumes in1 in2 taken) → Refuses (script old) (old.held ++ taken) in1 taken place → WritesError out1 out2 s → Answers limits in0 in2 out0 out2 s
-  refused_at place s taken given (AtByte byte lasting at is) writes = error_line limits in0 in2 out0 out1 out2 now (behind_taken taken) (after taken given) s writes
-      (λ known more. subst (λ (t : Script). IsAnswer known t now refusal) (sym (is more)) (fault_answer known byte now lasting))
-  refused_at place s taken given (AtEnd is all) writes = end_line limits in0 in2 out0 out1 out2 now (behind_taken taken) (after taken given) s writes
+  refused_at : (f : TextFault) (byte : ByteFault) (s : Status) (taken : List ℕ) (given : Consumes in1 in2 taken) → in_bytes f ≡ Some byte
+      → Refuses (script old) (old.held ++ taken) in1 taken f → WritesError (fault_line byte) out1 out2 s → Answers limits in0 in2 out0 out2 s
+  refused_at f byte s taken given has (AtByte b lasting same is) writes =
+      error_line limits in0 in2 out0 out1 out2 now (behind_taken taken) (after taken given) (fault_line byte) s writes
+      (λ known more. subst (λ (t : Script). IsAnswer known t now (failure (fault_line byte))) (sym (is more))
+      (subst (λ (x : ByteFault). IsAnswer known (Fault b) now (failure (fault_line x))) (same_byte f b byte same has) (fault_answer known b now lasting)))
+  refused_at f byte s taken given has (AtEnd first same is all) writes =
+      end_line limits in0 in2 out0 out1 out2 now (behind_taken taken) (after taken given) (fault_line byte) s writes
       (Exhausts-then in0 in1 reached.taken taken reached.given all)
-      (subst (λ (t : Script). IsAnswer true t now refusal) (sym (at_nil taken (Fault (Unclosed place)) is)) (unclosed now place))
+      (subst (λ (t : Script). IsAnswer true t now (failure (fault_line byte))) (sym (at_nil taken (Fault (Unclosed first)) is))
+      (subst (λ (x : ByteFault). IsAnswer true (Fault (Unclosed first)) now (failure (fault_line x))) (same_byte f (Unclosed first) byte same has) (unclosed now first)))
 
-  pub refused_bytes : (place : Place) (s : Status) → Reads old new in1 in2 (Err (fault.NotBuilt place)) → WritesError out1 out2 s → Answers limits in0 in2 out0 out2 s
-  refused_bytes place s r writes = refused_at place s r.taken r.given r.answer.1 writes
+  pub refused_bytes : (f : TextFault) (byte : ByteFault) (s : Status) → in_bytes f ≡ Some byte → Reads old new in1 in2 (Err f) → WritesError (fault_line byte) out1 out2 s → Answers limits in0 in2 out0 out2 s
+  refused_bytes f byte s has r writes = refused_at f byte s r.taken r.given has (byte_answer f byte (old.held ++ r.taken) in1 r.taken has r.answer) writes
+    where
+      byte_answer : (f : TextFault) (byte : ByteFault) (all : List ℕ) (left : Option (List ℕ)) (taken : List ℕ) → in_bytes f ≡ Some byte → ReaderAnswers old new all left taken (Err f) → Refuses (script old) all left taken f
+      byte_answer fault.ReadFault byte all left taken has answer = cc
+      byte_answer fault.Memory byte all left taken has answer = cc
+      byte_answer (fault.BadByte place) byte all left taken has answer = answer.1
+      byte_answer (fault.Unclosed place) byte all left taken has answer = answer.1
+      byte_answer (fault.Stray place) byte all left taken has answer = answer.1
+      byte_answer (fault.TooDeep place) byte all left taken has answer = answer.1
+      byte_answer (fault.TooLong place) byte all left taken has answer = answer.1
+
+  -- the reader's one other fault
+  pub other_fault : (f : TextFault) → in_bytes f ≡ None → f ≢ fault.ReadFault → Reads old new in1 in2 (Err f) → Answers limits in0 in2 out0 out1 status.NoMemory
+  other_fault fault.Memory none no_read r = reader_memory r
+  other_fault fault.ReadFault none no_read r = absurd (no_read refl)
+  other_fault (fault.BadByte place) none no_read r = absurd (cc)
+  other_fault (fault.Unclosed place) none no_read r = absurd (cc)
+  other_fault (fault.Stray place) none no_read r = absurd (cc)
+  other_fault (fault.TooDeep place) none no_read r = absurd (cc)
+  other_fault (fault.TooLong place) none no_read r = absurd (cc)

@@ -15,7 +15,7 @@ use Rattle.smt_syntax.specs.declared.shape.Shape.{Shape}
 use Rattle.smt_syntax.specs.declared.shape.Shape.TheVariants.{Equation, Forall}
 use Rattle.ematch_cli.specs.Names.{names_of}
 use Rattle.ematch_cli.specs.Run.{placed, EntersRow, Enters, HasNoRoomFor, HaveNoRoom, merged, Asserts, AsksTooMuch, Acts, NeedsTooMuch, RunState, Replies, HasNoRoom, IsRefused}
-use Rattle.ematch_cli.specs.Output.{Answer, IsAnswer, behind, refusal, at_end, at_fault}
+use Rattle.ematch_cli.specs.Output.{Answer, IsAnswer, behind, failure, at_end, at_fault}
 use Rattle.ematch_cli.proofs.OneText.{listing_once}
 
 -- a row is entered in one way

@@ -15,7 +15,8 @@ use Rattle.smt_text.specs.declared.byte_fault.ByteFault.TheVariants.{BadByte, Un
 use Rattle.smt_text.specs.declared.token.Place.{Place}
 use Rattle.smt_text.specs.declared.fault.TextFault.TheVariants as fault
 use Rattle.ematch_cli.specs.Run.{RunState, Replies, IsRefused}
-use Rattle.ematch_cli.specs.Output.{Answer, Ending, Open, Finished, Failed, IsAnswer, behind, refusal, silence, not_built, at_end, at_fault, opening, IsOutput, IsOutputSoFar}
+use Rattle.ematch_cli.specs.Output.{Answer, Ending, Open, Finished, Failed, IsAnswer, behind, failure, silence, at_end, at_fault, opening, IsOutput, IsOutputSoFar}
+use Rattle.ematch_cli.specs.ErrorLine.{fault_line, not_built}
 use Rattle.ematch_cli.specs.Headline.{Wrote, BeginsWith, WroteFront, WroteFrontOf, Stands, IsUndisturbed, Answers}
 use Rattle.ematch_cli.specs.declared.status.Status.{Status}
 use Rattle.ematch_cli.specs.declared.status.Status.TheVariants as status
@@ -190,8 +191,8 @@ open_only (Fault (TooDeep place)) now is after answered = absurd is
 open_only (Fault (TooLong place)) now is after answered = absurd is
 open_only (Command words rest) now is after answered = absurd is
 
--- a fault that stands whatever comes is refused
-pub fault_answer : (known : Bool) (byte : ByteFault) (now : RunState) → IsLasting byte → IsAnswer known (Fault byte) now refusal
+-- a fault that stands whatever comes is told
+pub fault_answer : (known : Bool) (byte : ByteFault) (now : RunState) → IsLasting byte → IsAnswer known (Fault byte) now (failure (fault_line byte))
 unfolding IsAnswer
 fault_answer true byte now lasting = refl
 fault_answer false (BadByte place) now lasting = refl
@@ -200,8 +201,8 @@ fault_answer false (TooDeep place) now lasting = refl
 fault_answer false (TooLong place) now lasting = refl
 fault_answer false (Unclosed place) now lasting = absurd lasting
 
--- a command that is open where the input ends is refused
-pub unclosed : (now : RunState) (place : Place) → IsAnswer true (Fault (Unclosed place)) now refusal
+-- and so is a command that is open where the input ends
+pub unclosed : (now : RunState) (place : Place) → IsAnswer true (Fault (Unclosed place)) now (failure (fault_line (Unclosed place)))
 unfolding IsAnswer
 unclosed now place = refl
 
@@ -213,7 +214,7 @@ pub end_only : (known : Bool) (now : RunState) (after : Answer) → IsAnswer kno
 unfolding IsAnswer
 end_only known now after answered = answered
 
-pub refused_answer : (known : Bool) (words : List Word) (rest : Script) (now : RunState) → IsRefused now words → IsAnswer known (Command words rest) now refusal
+pub refused_answer : (known : Bool) (words : List Word) (rest : Script) (now : RunState) → IsRefused now words → IsAnswer known (Command words rest) now (failure not_built)
 unfolding IsAnswer
 refused_answer known words rest now refused = inl (refused, refl)
 

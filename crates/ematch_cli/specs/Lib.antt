@@ -7,5 +7,7 @@ pub mod Run
 pub mod Entered
 pub mod Status
 pub mod Words
+pub mod ErrorLine
 pub mod Output
 pub mod Headline
+pub mod WritesError

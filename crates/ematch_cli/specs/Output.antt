@@ -1,12 +1,12 @@
 -- The defined answer to a script.
-use Rattle.std.specs.Prelude.{◌≡◌, ◌⊎◌, ℕ, Bool, true, false, List, [], ◌∷◌, ◌++◌, codes}
+use Rattle.std.specs.Prelude.{◌≡◌, ◌⊎◌, ℕ, Bool, true, false, List, [], ◌∷◌, ◌++◌}
 use Rattle.em_outside.specs.declared.limits.Limits.{Limits}
 use Rattle.smt_text.specs.Word.{Word}
 use Rattle.smt_text.specs.Script.{Script, End, Fault, Command, script_of}
 use Rattle.smt_text.specs.declared.byte_fault.ByteFault.{ByteFault}
 use Rattle.smt_text.specs.declared.byte_fault.ByteFault.TheVariants.{Unclosed}
 use Rattle.smt_syntax.specs.State.{start}
-use Rattle.ematch_cli.specs.Listing.{line}
+use Rattle.ematch_cli.specs.ErrorLine.{fault_line, not_built}
 use Rattle.ematch_cli.specs.Run.{RunState, Replies, IsRefused}
 
 -- how the answer to some bytes ends: more may follow, or by the end of the script, or by an error
@@ -24,13 +24,9 @@ pub record Answer : Type 0 where
 abbrev pub behind : List ℕ → Answer → Answer
 behind bytes answer = record answer { bytes = bytes ++ answer.bytes }
 
--- the line of the one error
-abbrev pub not_built : List ℕ
-not_built = line (codes "(error \"not built yet\")")
-
--- the answer that the error ends
-abbrev pub refusal : Answer
-refusal = record { bytes = not_built; ending = Failed }
+-- the answer that an error with this line ends
+abbrev pub failure : List ℕ → Answer
+failure text = record { bytes = text; ending = Failed }
 
 -- nothing more is answered
 abbrev pub silence : Ending → Answer
@@ -41,10 +37,10 @@ abbrev pub at_end : Bool → Answer
 at_end true = silence Finished
 at_end false = silence Open
 
--- the answer at a fault of the bytes: where more may come, a command that is not closed yet is none
+-- the answer at a fault of the bytes is its line: where more may come, a command that is not closed yet is none
 abbrev pub at_fault : Bool → ByteFault → Answer
 at_fault false (Unclosed place) = silence Open
-at_fault known fault = refusal
+at_fault known fault = failure (fault_line fault)
 
 -- The answer to a script from a state on: the answers to its commands in order, up to the first that is refused, to
 -- the first fault of its bytes, or to their end, of which it is known or not whether it is the script's.
@@ -52,7 +48,7 @@ unfoldable pub IsAnswer : (known : Bool) → Script → RunState → Answer → 
 IsAnswer known End state answer = answer ≡ at_end known
 IsAnswer known (Fault fault) state answer = answer ≡ at_fault known fault
 IsAnswer known (Command words rest) state answer =
-    (IsRefused state words × (answer ≡ refusal))
+    (IsRefused state words × (answer ≡ failure not_built))
     ⊎ ((later : RunState) × (text : List ℕ) × (after : Answer) × Replies state words later text × IsAnswer known rest later after × (answer ≡ behind text after))
 
 -- before the first command

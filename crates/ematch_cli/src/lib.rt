@@ -2,6 +2,7 @@
 #![tactic(auto)]
 
 mod entry;
+mod error_line;
 mod laws;
 mod listing;
 mod printed;

@@ -1,3 +1,5 @@
+ghost use Rattle.em_outside.specs.Limits.{AreLawful};
+
 mod graphs;
 
 use super::*;
@@ -28,6 +30,20 @@ fn run(
     reads: &[u64],
     writes: &[u64],
 ) -> Result<Left, AllocError> {
+    run_within(rt, &Limits::standard(), script, piece, reads, writes)
+}
+
+/// The same with other limits.
+fn run_within(
+    rt: &HostRuntime,
+    limits: &Limits,
+    script: &[&str],
+    piece: usize,
+    reads: &[u64],
+    writes: &[u64],
+) -> Result<Left, AllocError>
+    requires { AreLawful limits.now }
+{
     let alloc = rt.alloc();
     let mut words = Vec::new(alloc);
     words.push(String::from_str(alloc, "matches")?)?;
@@ -35,14 +51,13 @@ fn run(
     for part in script {
         bytes.extend_from_slice(part.as_bytes())?;
     }
-    let limits = Limits::standard();
     let mut input = MemSource::new(bytes, piece.max(1), Vec::from_slice(alloc, reads)?);
     let mut out = MemSink::new(alloc, Vec::from_slice(alloc, writes)?);
     let mut err = MemSink::new(alloc, Vec::new(alloc));
     let status = run_alone(
         alloc,
         words.as_slice(),
-        &limits,
+        limits,
         &mut input,
         &mut out,
         &mut err,
@@ -109,6 +124,11 @@ const ANSWERS: &[(&str, &str)] = &[
         "(assert (= (k a b) (k a b)))(assert (forall ((x U)) (! (= x x) :pattern ((k x c)))))(check-sat)(assert (= b c))(check-sat)",
         "forall 1 trigger 1: 0\nsettled\nforall 1 trigger 1: 1\n  a\nsettled\n",
     ),
+    // a name between bars is the same name, and has bars where it needs them
+    (
+        "(declare-const |x y| U) ; the same \" | as\n(assert (= (f |x y|) (f |a|)))(assert (|forall| ((|x| U)) (! (= x |x|) :pattern ((f x)))))(check-sat)",
+        "forall 1 trigger 1: 2\n  |x y|\n  a\nsettled\n",
+    ),
     // a trigger goes with its level
     (
         "(push 1)(assert (forall ((x U)) (! (= x x) :pattern ((f x)))))(pop 1)(assert (= (f a) (f a)))(check-sat)",
@@ -135,7 +155,7 @@ fn the_end_inside_a_command_is_an_error_where_it_is_known(rt: HostRuntime) -> Re
     let ended = run(&rt, &[UNFINISHED], 100, &[], &[])?;
     assert_eq!(rt;
         ended.out.as_slice(),
-        b"settled\n(error \"not built yet\")\n".as_slice()
+        b"settled\n(error \"line 2 column 1: the command is not closed\")\n".as_slice()
     );
     assert_eq!(rt; (ended.code, ended.err.len()), (1, 0));
     let failed = run(&rt, &[UNFINISHED], 100, &[1], &[])?;
@@ -144,6 +164,49 @@ fn the_end_inside_a_command_is_an_error_where_it_is_known(rt: HostRuntime) -> Re
         (failed.code, failed.err.as_slice()),
         (3, b"ematch: read failed\n".as_slice())
     );
+    Ok(())
+}
+
+#[test]
+fn a_fault_of_the_bytes_has_its_line(rt: HostRuntime) -> Result<(), Fail> {
+    let limits = Limits {
+        bytes: 21,
+        depth: 2,
+        ..Limits::standard()
+    };
+    let scripts = [
+        (
+            "(check-sat)\n(assert\n 01)",
+            "settled\n(error \"line 3 column 3: byte not allowed here\")\n",
+        ),
+        (
+            "(check-sat)\n \"",
+            "settled\n(error \"line 2 column 2: a command must begin with (\")\n",
+        ),
+        (
+            " (|a) ",
+            "(error \"line 1 column 2: the command is not closed\")\n",
+        ),
+        (
+            "((()))",
+            "(error \"line 1 column 3: too many open parentheses\")\n",
+        ),
+        (
+            "(check-sat) (check-sat)",
+            "settled\n(error \"line 1 column 22: the script is too long\")\n",
+        ),
+        (
+            "(set-logic UF) (",
+            "(error \"not built yet\")\n",
+        ),
+    ];
+    for (script, answer) in scripts {
+        for piece in [1, 4096] {
+            let left = run_within(&rt, &limits, &[script], piece, &[], &[])?;
+            assert_eq!(rt; left.out.as_slice(), answer.as_bytes(), "{script}");
+            assert_eq!(rt; left.code, 1, "{script}");
+        }
+    }
     Ok(())
 }
 

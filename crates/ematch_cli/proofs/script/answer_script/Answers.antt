@@ -8,7 +8,7 @@ use Rattle.ematch_cli.specs.Run.{RunState, run_state}
 use Rattle.ematch_cli.specs.Output.{opening}
 use Rattle.ematch_cli.proofs.Reached.{Reached, ahead, reached_start}
 use Rattle.ematch_cli.specs.Headline.{WroteFront}
-use Rattle.ematch_cli.proofs.Exits.{done, read_fault, reader_memory, reply_memory, write_fault, next, refused_command, refused_bytes}
+use Rattle.ematch_cli.proofs.Exits.{done, read_fault, other_fault, reply_memory, write_fault, next, refused_command, refused_bytes}
 use Rattle.ematch_cli.proofs.script.answer_script.Goals as goal
 
 pub returns-then-not-write_text-clause-answers : goal.returns-then-not-write_text-clause-answers
@@ -25,7 +25,7 @@ returns-in-Refused-clause-answers g c =
     refused_command c.args.limits.now (g.I.Source.left c.args.input.now) (g.I.Source.left c.loop-tree.input) (g.I.Source.left c.next_tree.new.source) (g.O.Sink.written c.args.out.now) (g.O.Sink.written c.loop-tree.out) (g.O.Sink.written c.refuse.new.out)
     (run_state c.loop-tree.session c.loop-tree.graph) c.loop-tree.reader c.next_tree.new.self c.loop-tree.invariant.reached c.in-Ok-Some.tree c.refuse.result
     (read.reads c.loop-tree.invariant.no_fault) (c.in-Err-reply.ensures.refused (cc))
-    (record { is = c.refuse.ensures.status; whole = c.refuse.ensures.error; front = λ e. (c.refuse.ensures.fault e).1 })
+    (rw c.refusal_line.ensures at c.refuse.ensures.writes)
 
 pub returns-in-Memory-clause-answers : goal.returns-in-Memory-clause-answers
 returns-in-Memory-clause-answers g c =
@@ -61,19 +61,17 @@ returns-in-ReadFault-clause-answers g c =
     read_fault c.args.limits.now (g.I.Source.left c.args.input.now) (g.I.Source.left c.loop-tree.input) (g.I.Source.left c.next_tree.new.source) (g.O.Sink.written c.args.out.now) (g.O.Sink.written c.loop-tree.out) (g.O.Sink.written c.loop-tree.out)
     (run_state c.loop-tree.session c.loop-tree.graph) c.loop-tree.reader c.next_tree.new.self c.loop-tree.invariant.reached (read.reads c.loop-tree.invariant.no_fault)
 
-pub returns-in-Memory-fault-clause-answers : goal.returns-in-Memory-fault-clause-answers
-returns-in-Memory-fault-clause-answers g c =
-    let read = rw c.in-Memory-fault.is at c.in-Err.ensures in
-    reader_memory c.args.limits.now (g.I.Source.left c.args.input.now) (g.I.Source.left c.loop-tree.input) (g.I.Source.left c.next_tree.new.source) (g.O.Sink.written c.args.out.now) (g.O.Sink.written c.loop-tree.out) (g.O.Sink.written c.loop-tree.out)
-    (run_state c.loop-tree.session c.loop-tree.graph) c.loop-tree.reader c.next_tree.new.self c.loop-tree.invariant.reached (read.reads c.loop-tree.invariant.no_fault)
+pub returns-in-Some-clause-answers : goal.returns-in-Some-clause-answers
+returns-in-Some-clause-answers g c =
+    refused_bytes c.args.limits.now (g.I.Source.left c.args.input.now) (g.I.Source.left c.loop-tree.input) (g.I.Source.left c.next_tree.new.source) (g.O.Sink.written c.args.out.now) (g.O.Sink.written c.loop-tree.out) (g.O.Sink.written c.refuse_bytes.new.out)
+    (run_state c.loop-tree.session c.loop-tree.graph) c.loop-tree.reader c.next_tree.new.self c.loop-tree.invariant.reached c.in-Err.fault c.in-Some.byte c.refuse_bytes.result
+    (sym c.in_bytes.ensures ∙ c.in-Some.is)
+    (c.in-Err.ensures.reads c.loop-tree.invariant.no_fault) c.refuse_bytes.ensures.writes
 
-pub returns-in-NotBuilt-clause-answers : goal.returns-in-NotBuilt-clause-answers
-returns-in-NotBuilt-clause-answers g c =
-    let read = rw c.in-NotBuilt.is at c.in-Err.ensures in
-    refused_bytes c.args.limits.now (g.I.Source.left c.args.input.now) (g.I.Source.left c.loop-tree.input) (g.I.Source.left c.next_tree.new.source) (g.O.Sink.written c.args.out.now) (g.O.Sink.written c.loop-tree.out) (g.O.Sink.written c.refuse-in-NotBuilt.new.out)
-    (run_state c.loop-tree.session c.loop-tree.graph) c.loop-tree.reader c.next_tree.new.self c.loop-tree.invariant.reached c.in-NotBuilt.place c.refuse-in-NotBuilt.result
-    (read.reads c.loop-tree.invariant.no_fault)
-    (record { is = c.refuse-in-NotBuilt.ensures.status; whole = c.refuse-in-NotBuilt.ensures.error; front = λ e. (c.refuse-in-NotBuilt.ensures.fault e).1 })
+pub returns-in_default-fault-clause-answers : goal.returns-in_default-fault-clause-answers
+returns-in_default-fault-clause-answers g c =
+    other_fault c.args.limits.now (g.I.Source.left c.args.input.now) (g.I.Source.left c.loop-tree.input) (g.I.Source.left c.next_tree.new.source) (g.O.Sink.written c.args.out.now) (g.O.Sink.written c.loop-tree.out) (g.O.Sink.written c.loop-tree.out)
+    (run_state c.loop-tree.session c.loop-tree.graph) c.loop-tree.reader c.next_tree.new.self c.loop-tree.invariant.reached c.in-Err.fault (sym c.in_bytes.ensures ∙ c.in-None.is) c.in_default-fault.not-ReadFault (c.in-Err.ensures.reads c.loop-tree.invariant.no_fault)
 
 pub loop-tree-init : goal.loop-tree-init
 loop-tree-init g c =
