@@ -8,6 +8,7 @@ use Rattle.smt_names.specs.declared.value.Value.{Value}
 use Rattle.smt_names.specs.declared.value.Value.TheVariants.{Term, Formula}
 use Rattle.smt_names.specs.declared.connective.Connective.{Connective}
 use Rattle.smt_names.specs.declared.connective.Connective.TheVariants as core
+use Rattle.smt_forms.specs.declared.crossed.Crossed.{Crossed}
 use Rattle.smt_names.specs.Value.{row_of, self, other, complement, has_complement, swapped}
 use Rattle.smt_names.specs.Making.{Making, made, ◌>>=◌, bad_form, row, node, node_if}
 
@@ -58,19 +59,13 @@ refuted (part ∷ next ∷ parts) = option_map (λ ns. self part ∷ ns) (refute
 abbrev pub implies_form : Place → List Value → Making Value
 implies_form at parts = both at (Or (implied parts)) (option_map And (refuted parts))
 
--- the four nodes on which xor and = of two formulas stand
-pub record Crossed : Type 0 where
-  pub m : ℕ
-  pub n : ℕ
-  pub p : ℕ
-  pub q : ℕ
-
 abbrev pub or_of : Place → ℕ → ℕ → Making ℕ
 or_of at a b = node at (Or (a ∷ b ∷ []))
 
 abbrev pub and_of : ℕ → ℕ → ShapeNode
 and_of a b = And (a ∷ b ∷ [])
 
+-- the four nodes on which xor and = of two formulas stand
 abbrev pub crossed : Place → Value → Value → Making Crossed
 crossed at a b = do
   m ← or_of at (self a) (self b)

@@ -253,9 +253,13 @@ signature_of f = record { arguments = f.arguments; sort = f.sort }
 abbrev pub with_sort : List ℕ → State → State
 with_sort name state = record state { sorts = state.sorts ++ name ∷ [] }
 
+-- a function with these sorts, under its name
+abbrev pub declared_as : List ℕ → Signature → Declared
+declared_as name signature = record { name = name; arguments = signature.arguments; sort = signature.sort }
+
 -- a function more
 abbrev pub with_function : List ℕ → Signature → State → State
-with_function name signature state = record state { functions = state.functions ++ record { name = name; arguments = signature.arguments; sort = signature.sort } ∷ [] }
+with_function name signature state = record state { functions = state.functions ++ declared_as name signature ∷ [] }
 
 -- a definition under its name
 abbrev pub defined_as : List ℕ → definition.Definition → Defined
