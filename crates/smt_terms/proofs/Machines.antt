@@ -25,7 +25,7 @@ use Rattle.smt_terms.specs.declared.frame.Next.TheVariants as step
 use Rattle.smt_terms.specs.Meant.{Meant, Meaning, End, Token, Group}
 use Rattle.smt_terms.specs.Terms.{value, values, bind, bound_values, token_value}
 use Rattle.smt_terms.specs.Cursor.{word_at, here, is_binding, SeesBinding}
-use Rattle.smt_terms.specs.Machine.{outside, with_bound, applies, binds, takes_by, goes_by, finish, resume, weight, weight_by, load, scope_of, GoesOn, Gives, PutsIn, binds_in}
+use Rattle.smt_terms.specs.Machine.{outside, with_bound, applies, binds, takes_by, goes_by, finish, resume, weight, weight_by, load, base_of, scope_of, GoesOn, Gives, PutsIn, binds_in}
 
 abbrev Made : Type 0
 Made = Result (Value × Draft) SyntaxFault
@@ -139,9 +139,9 @@ module _ (words : List Word) (old new : List Frame) (bound : List Bound) (paren 
   pub enters_binding : (name behind : ℕ) → new ≡ old ++ record { paren = paren; head = head; after = after; work = Let name done behind body } ∷ []
       → SeesBinding words next name behind
       → (state : State) (inside : Inside) (missing : Place) (draft : Draft)
-      → GoesOn words state inside missing new bound draft (1 + weight words (here words next) + weight words (here words body) + weight words (here words after) + load words (reverse old)) (step.At (name + 1))
+      → GoesOn words state inside missing new bound draft (base_of (reverse old) bound) (1 + weight words (here words next) + weight words (here words body) + weight words (here words after) + load words (reverse old)) (step.At (name + 1))
           (binds_in words old bound paren head after done.items next body state inside draft)
-  unfolding weight load
+  unfolding weight load base_of
   enters_binding name behind is sees state inside missing draft =
     let f : Frame = record { paren = paren; head = head; after = after; work = Let name done behind body } in
     let scope = scope_of state inside bound in
@@ -149,24 +149,29 @@ module _ (words : List Word) (old new : List Frame) (bound : List Bound) (paren 
     (list_begins words missing scope scope (reverse old) f (here words (name + 1)) (binds words scope head done.items next body draft) draft refl
         (next_binding words scope head done.items next body name behind (word_at words next) _ (here words (name + 1)) draft sees.is)
       ∙ sym (ap (λ (fs : List Frame). resume words missing scope fs (here words (name + 1)) draft) top),
-     rw (top, sees.is) (omega arith))
+     rw (top, sees.is) (omega arith),
+     ap (λ (fs : List Frame). base_of fs bound) top)
+
+  back : (later : List Bound) (n : ℕ) → n ≡ length bound → later ≡ bound ++ done.items → take n later ≡ bound
+  back later n count names = ap (take n) names ∙ ap (λ (k : ℕ). take k (bound ++ done.items)) count ∙ take-append_seam bound done.items
 
   -- or with its body
   pub enters_body : (later : List Bound) (n : ℕ) → n ≡ length bound → later ≡ bound ++ done.items → new ≡ old ++ record { paren = paren; head = head; after = after; work = Pass n } ∷ []
       → is_binding (here words next) ≡ false
       → (state : State) (inside : Inside) (missing : Place) (draft : Draft)
-      → GoesOn words state inside missing new later draft (1 + weight words (here words next) + weight words (here words body) + weight words (here words after) + load words (reverse old)) (step.At body)
+      → GoesOn words state inside missing new later draft (base_of (reverse old) bound) (1 + weight words (here words next) + weight words (here words body) + weight words (here words after) + load words (reverse old)) (step.At body)
           (binds_in words old bound paren head after done.items next body state inside draft)
-  unfolding weight load
+  unfolding weight load base_of
   enters_body later n count names is none state inside missing draft =
     let f : Frame = record { paren = paren; head = head; after = after; work = Pass n } in
     let scope = scope_of state inside bound in
     let top = pushed old new f is in
     (list_begins words missing scope (scope_of state inside later) (reverse old) f (here words body) (binds words scope head done.items next body draft) draft
-        (ap (scope_of state inside) (ap (take n) names ∙ ap (λ (k : ℕ). take k (bound ++ done.items)) count ∙ take-append_seam bound done.items))
+        (ap (scope_of state inside) (back later n count names))
         (body_next words scope head done.items next body draft none ∙ ap (λ (all : List Bound). value head (scope_of state inside all) (here words body) draft) (sym names))
       ∙ sym (ap (λ (fs : List Frame). resume words missing (scope_of state inside later) fs (here words body) draft) top),
-     rw top (omega arith))
+     rw top (omega arith),
+     ap (λ (fs : List Frame). base_of fs later) top ∙ ap (base_of (reverse old)) (back later n count names))
 
 -- the innermost of some lists has a value
 module _ (words : List Word) (old new : List Frame) (bound : List Bound) (paren head : Place) (after next : ℕ) (at : Place) (v : Value) where
@@ -178,46 +183,49 @@ module _ (words : List Word) (old new : List Frame) (bound : List Bound) (paren 
 
   pub puts_pass : (n : ℕ) (later : List Bound) → later ≡ take n bound → new ≡ old
       → Gives words (old ++ record { paren = paren; head = head; after = after; work = Pass n } ∷ []) bound new later next at v (Ok (given.Outer paren after))
-  unfolding frame_of finish load
+  unfolding frame_of finish load base_of
   puts_pass n later names same =
     (λ state inside draft.
        ap (λ (fs : List Frame). finish words (scope_of state inside bound) fs (here words next) at v draft) (top_of (Pass n))
        ∙ ap (λ (all : List Bound). finish words (scope_of state inside all) (reverse old) (here words after) paren v draft) (sym names)
        ∙ ap (λ (fs : List Frame). finish words (scope_of state inside later) (reverse fs) (here words after) paren v draft) (sym same),
      rw same (omega (arith, length-append old (frame_of (Pass n) ∷ []))),
+     rw (same, top_of (Pass n), names) refl,
      rw (same, top_of (Pass n)) (omega arith))
 
   pub puts_apply : (called : ℕ) (name : Head) (args more : Vec Arg Global) → more.items ≡ args.items ++ record { place = at; value = v } ∷ []
       → new ≡ old ++ record { paren = paren; head = head; after = after; work = Apply called name more } ∷ []
       → Gives words (old ++ record { paren = paren; head = head; after = after; work = Apply called name args } ∷ []) bound new bound next at v (Ok (given.At next))
-  unfolding frame_of finish resume load
+  unfolding frame_of finish resume load base_of
   puts_apply called name args more got is state inside missing draft =
     (ap (λ (fs : List Frame). finish words (scope_of state inside bound) fs (here words next) at v draft) (top_of (Apply called name args))
        ∙ ap (λ (all : List Arg). then_from (λ (u : Value). finish words (scope_of state inside bound) (reverse old) (here words after) paren u) (applies words (scope_of state inside bound) (frame_of (Apply called name args)) called name all (here words next) draft)) (sym got)
        ∙ ap (λ (fs : List Frame). resume words missing (scope_of state inside bound) fs (here words next) draft) (sym (pushed old new (frame_of (Apply called name more)) is)),
-     rw (pushed old new (frame_of (Apply called name more)) is, top_of (Apply called name args)) (omega arith))
+     rw (pushed old new (frame_of (Apply called name more)) is, top_of (Apply called name args)) (omega arith),
+     rw (pushed old new (frame_of (Apply called name more)) is, top_of (Apply called name args)) refl)
 
   pub puts_let : (later : List Bound) (name further body i : ℕ) (done more : Vec Bound Global) (text : List ℕ) → text ≡ (word_at words name).text → more.items ≡ done.items ++ bind text v ∷ []
       → ((state : State) (inside : Inside) (missing : Place) (draft : Draft)
-          → GoesOn words state inside missing new later draft (1 + weight words (here words further) + weight words (here words body) + weight words (here words after) + load words (reverse old)) (step.At i)
+          → GoesOn words state inside missing new later draft (base_of (reverse old) bound) (1 + weight words (here words further) + weight words (here words body) + weight words (here words after) + load words (reverse old)) (step.At i)
               (binds_in words old bound paren head after more.items further body state inside draft))
       → Gives words (old ++ record { paren = paren; head = head; after = after; work = Let name done further body } ∷ []) bound new later next at v (Ok (given.At i))
-  unfolding frame_of finish load
+  unfolding frame_of finish load base_of
   puts_let later name further body i done more text called got goes state inside missing draft =
     let g = goes state inside missing draft in
     (ap (λ (fs : List Frame). finish words (scope_of state inside bound) fs (here words next) at v draft) (top_of (Let name done further body))
        ∙ ap (λ (all : List Bound). binds_in words old bound paren head after all further body state inside draft) (sym (got ∙ ap (λ (t : List ℕ). done.items ++ bind t v ∷ []) called))
        ∙ g.0,
-     rw (top_of (Let name done further body)) (omega (arith, g.1)))
+     rw (top_of (Let name done further body)) (omega (arith, g.1)),
+     rw (top_of (Let name done further body)) g.2)
 
 -- the same, of a frame with that work
 pub by_work : (words : List Word) (old new : List Frame) (bound later : List Bound) (f : Frame) (work : Work) (next : ℕ) (at : Place) (v : Value) (r : Result Given Memory) → f.work ≡ work
     → Gives words (old ++ record { paren = f.paren; head = f.head; after = f.after; work = work } ∷ []) bound new later next at v r → Gives words (old ++ f ∷ []) bound new later next at v r
 by_work words old new bound later f work next at v r is gives = subst (λ (w : Work). Gives words (old ++ record { paren = f.paren; head = f.head; after = f.after; work = w } ∷ []) bound new later next at v r) (sym is) gives
 
-pub gives_whole : (words : List Word) (old new : List Frame) (bound later : List Bound) (next : ℕ) (at : Place) (v : Value) → old ≡ [] → Gives words old bound new later next at v (Ok given.Whole)
-unfolding finish
-gives_whole words old new bound later next at v empty state inside draft = rw empty refl
+pub gives_whole : (words : List Word) (old new : List Frame) (bound later : List Bound) (next : ℕ) (at : Place) (v : Value) → old ≡ [] → later ≡ bound → Gives words old bound new later next at v (Ok given.Whole)
+unfolding finish base_of
+gives_whole words old new bound later next at v empty same = ((λ state inside draft. rw empty refl), rw empty same)
 
 pub emptied : (old new : List Frame) (n : ℕ) → n ≡ 0 → new ≡ take (n - 1) old → old ≡ new ++ [] → old ≡ []
 emptied old new n none rest was = was ∙ ap (λ (xs : List Frame). xs ++ []) (rest ∙ ap (λ (k : ℕ). take (k - 1) old) none)
@@ -228,3 +236,7 @@ pub gives_in : (words : List Word) (old popped new : List Frame) (bound later : 
 gives_in words old popped new bound later f next at v given.Whole was puts = absurd puts
 gives_in words old popped new bound later f next at v (given.At i) was puts = rw was puts
 gives_in words old popped new bound later f next at v (given.Outer a n) was puts = rw was puts
+
+pub gives_at : (words : List Word) (old new : List Frame) (bound later : List Bound) (next i : ℕ) (at : Place) (v : Value) (g : Given) → g ≡ given.At i
+    → Gives words old bound new later next at v (Ok g) → Gives words old bound new later next at v (Ok (given.At i))
+gives_at words old new bound later next i at v g is gives = subst (λ (h : Given). Gives words old bound new later next at v (Ok h)) is gives

@@ -3,3 +3,4 @@ pub mod Patterns
 pub mod Terms
 pub mod Cursor
 pub mod Machine
+pub mod Checks

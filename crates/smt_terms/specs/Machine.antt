@@ -34,11 +34,19 @@ scope_of state inside bound = record { state = state; bound = bound; in_forall =
 abbrev pub with_bound : Scope → List Bound → Scope
 with_bound scope bound = record scope { bound = scope.bound ++ bound }
 
--- the scope round a list, by the scope of what is under way in it
+-- the names that are bound round a list, by those bound for what is under way in it
+abbrev pub bound_round : Work → List Bound → List Bound
+bound_round (Apply called head args) bound = bound
+bound_round (Let name done next body) bound = bound
+bound_round (Pass n) bound = take n bound
+
 abbrev pub outside : Work → Scope → Scope
-outside (Apply called head args) scope = scope
-outside (Let name done next body) scope = scope
-outside (Pass bound) scope = record scope { bound = take bound scope.bound }
+outside work scope = record scope { bound = bound_round work scope.bound }
+
+-- the names that are bound round all open lists
+unfoldable pub base_of : List Frame → List Bound → List Bound
+base_of [] bound = bound
+base_of (f ∷ fs) bound = base_of fs (bound_round f.work bound)
 
 module _ (words : List Word) where
   -- an application with these arguments gets those that are left
@@ -109,15 +117,17 @@ given_to words state inside frames bound next at v = finish words (scope_of stat
 abbrev pub work_of : List Word → List Frame → ℕ → ℕ
 work_of words frames i = weight words (here words i) + load words (reverse frames)
 
--- What a step did that had so much to do: it goes on at a place, with no more work than so much, or the value of the whole is there.
-abbrev pub GoesOn : List Word → State → Inside → Place → List Frame → List Bound → Draft → (most : ℕ) → Next → Result (Value × Draft) SyntaxFault → Type 0
-GoesOn words state inside missing frames bound draft most (step.At i) was = (was ≡ rest_of words state inside missing frames bound i draft) × (work_of words frames i ≤ most)
-GoesOn words state inside missing frames bound draft most (step.Whole v) was = was ≡ Ok (v, draft)
+-- What a step did, where so much was to do and these names were bound round all: it goes on at a place, with no more work
+-- than so much, or the value of the whole is there.
+abbrev pub GoesOn : List Word → State → Inside → Place → List Frame → List Bound → Draft → (base : List Bound) → (most : ℕ) → Next → Result (Value × Draft) SyntaxFault → Type 0
+GoesOn words state inside missing frames bound draft base most (step.At i) was =
+    (was ≡ rest_of words state inside missing frames bound i draft) × (work_of words frames i ≤ most) × (base_of (reverse frames) bound ≡ base)
+GoesOn words state inside missing frames bound draft base most (step.Whole v) was = (was ≡ Ok (v, draft)) × (bound ≡ base)
 
 -- the same of what takes nothing from the shape and can lack memory alone, in each scope and shape
-abbrev pub Continues : List Word → List Frame → List Bound → (most : ℕ) → Result ℕ Memory → (State → Inside → Making Value) → Type 0
-Continues words frames bound most (Ok i) was = (state : State) (inside : Inside) (missing : Place) (draft : Draft) → GoesOn words state inside missing frames bound draft most (step.At i) (was state inside draft)
-Continues words frames bound most (Err refused) was = Unit {0}
+abbrev pub Continues : List Word → List Frame → List Bound → (base : List Bound) → (most : ℕ) → Result ℕ Memory → (State → Inside → Making Value) → Type 0
+Continues words frames bound base most (Ok i) was = (state : State) (inside : Inside) (missing : Place) (draft : Draft) → GoesOn words state inside missing frames bound draft base most (step.At i) (was state inside draft)
+Continues words frames bound base most (Err refused) was = Unit {0}
 
 -- a list that is a let gets its further bindings and its body, and gives the body's value on
 abbrev pub binds_in : List Word → List Frame → List Bound → (paren head : Place) → (after : ℕ) → List Bound → (next body : ℕ) → State → Inside → Making Value
@@ -127,12 +137,12 @@ binds_in words frames bound paren head after done next body state inside = do
 
 -- What giving a value to the innermost list did: it is that of the whole, elaboration goes on at a place, or it is the value of that list.
 abbrev pub Gives : List Word → List Frame → List Bound → List Frame → List Bound → (after : ℕ) → Place → Value → Result Given Memory → Type 0
-Gives words frames bound new_frames new_bound after at v (Ok given.Whole) = (state : State) (inside : Inside) (draft : Draft) → given_to words state inside frames bound after at v draft ≡ Ok (v, draft)
+Gives words frames bound new_frames new_bound after at v (Ok given.Whole) = ((state : State) (inside : Inside) (draft : Draft) → given_to words state inside frames bound after at v draft ≡ Ok (v, draft)) × (new_bound ≡ base_of (reverse frames) bound)
 Gives words frames bound new_frames new_bound after at v (Ok (given.At i)) =
-    (state : State) (inside : Inside) (missing : Place) (draft : Draft) → GoesOn words state inside missing new_frames new_bound draft (work_of words frames after) (step.At i) (given_to words state inside frames bound after at v draft)
+    (state : State) (inside : Inside) (missing : Place) (draft : Draft) → GoesOn words state inside missing new_frames new_bound draft (base_of (reverse frames) bound) (work_of words frames after) (step.At i) (given_to words state inside frames bound after at v draft)
 Gives words frames bound new_frames new_bound after at v (Ok (given.Outer outer_at outer_next)) =
     ((state : State) (inside : Inside) (draft : Draft) → given_to words state inside frames bound after at v draft ≡ given_to words state inside new_frames new_bound outer_next outer_at v draft)
-    × (length new_frames < length frames) × (work_of words new_frames outer_next ≤ work_of words frames after)
+    × (length new_frames < length frames) × (base_of (reverse new_frames) new_bound ≡ base_of (reverse frames) bound) × (work_of words new_frames outer_next ≤ work_of words frames after)
 Gives words frames bound new_frames new_bound after at v (Err refused) = Unit {0}
 
 -- what giving it to a list did that was the innermost, of more than these
@@ -145,5 +155,5 @@ PutsIn words frames bound new_frames new_bound f after at v (Err refused) = Unit
 -- what giving it on did: elaboration goes on at a place, or it is the value of the whole
 abbrev pub GivesOn : List Word → List Frame → List Bound → List Frame → List Bound → (after : ℕ) → Place → Value → Result Next Memory → Type 0
 GivesOn words frames bound new_frames new_bound after at v (Ok n) =
-    (state : State) (inside : Inside) (missing : Place) (draft : Draft) → GoesOn words state inside missing new_frames new_bound draft (work_of words frames after) n (given_to words state inside frames bound after at v draft)
+    (state : State) (inside : Inside) (missing : Place) (draft : Draft) → GoesOn words state inside missing new_frames new_bound draft (base_of (reverse frames) bound) (work_of words frames after) n (given_to words state inside frames bound after at v draft)
 GivesOn words frames bound new_frames new_bound after at v (Err refused) = Unit {0}

@@ -1,28 +1,38 @@
 //! Gives values to open lists.
-ghost use Rattle.std.specs.Prelude.{◌≡◌, ◌≤◌, ◌+◌, reverse};
+ghost use Rattle.std.specs.Prelude.{◌≡◌, ◌≤◌, ◌+◌, ◌++◌, reverse, OnOk};
 ghost use Rattle.smt_terms.specs.Cursor.{here, word_at};
-ghost use Rattle.smt_terms.specs.Machine.{weight, load, work_of, Continues, Gives, GivesOn, PutsIn, binds_in};
+ghost use Rattle.smt_terms.specs.Machine.{weight, load, base_of, Continues, Gives, GivesOn, PutsIn, binds_in};
 
 use crate::cursor::{binding_at, text_at};
 use crate::frame::{Frame, Given, Next, Round, Work};
-use smt_names::{Arg, Bound, Stands, Value};
+use smt_names::{Arg, Bound, BoundNames, Stands};
 use smt_text::{Place, Tree};
 use std::alloc::Global;
 use term_table::{Memory, Name};
+
+/// Binds more names.
+fn bind_all(bound: &mut BoundNames, more: &[Bound]) -> Result<(), Memory>
+    ensures { OnOk result (bound.new ≡ bound.old ++ more.now) }
+{
+    for b in more {
+        bound.push(b.name.as_slice(), b.stands)?;
+    }
+    Ok(())
+}
 
 /// A `let` goes on with the binding that comes next, or else with its body.
 fn enter_binding(
     tree: &Tree,
     frames: &mut Vec<Frame>,
-    bound: &mut Vec<Bound>,
+    bound: &mut BoundNames,
     round: &Round,
-    mut done: Vec<Bound>,
+    done: Vec<Bound>,
     next: u32,
     body: u32,
 ) -> Result<u32, Memory>
-    ensures { Continues tree.now frames.new.items bound.new.items
+    ensures { Continues tree.now frames.new.items bound.new (base_of (reverse frames.old.items) bound.old)
         (1 + weight tree.now (here tree.now next) + weight tree.now (here tree.now body) + weight tree.now (here tree.now round.now.after) + load tree.now (reverse frames.old.items))
-        result (binds_in tree.now frames.old.items bound.old.items round.now.paren round.now.head round.now.after done.items next body) }
+        result (binds_in tree.now frames.old.items bound.old round.now.paren round.now.head round.now.after done.items next body) }
 {
     match binding_at(tree, next) {
         Some(binding) => {
@@ -41,7 +51,7 @@ fn enter_binding(
         }
         None => {
             let outside = bound.len();
-            bound.append(&mut done)?;
+            bind_all(bound, done.as_slice())?;
             frames.push(Frame {
                 paren: round.paren,
                 head: round.head,
@@ -58,12 +68,12 @@ fn put_in(
     alloc: Global,
     tree: &Tree,
     frames: &mut Vec<Frame>,
-    bound: &mut Vec<Bound>,
+    bound: &mut BoundNames,
     frame: Frame,
     next: u32,
     arg: Arg,
 ) -> Result<Given, Memory>
-    ensures { PutsIn tree.now frames.old.items bound.old.items frames.new.items bound.new.items frame next arg.place arg.value result }
+    ensures { PutsIn tree.now frames.old.items bound.old frames.new.items bound.new frame next arg.place arg.value result }
 {
     let Frame {
         paren,
@@ -120,11 +130,11 @@ fn give_one(
     alloc: Global,
     tree: &Tree,
     frames: &mut Vec<Frame>,
-    bound: &mut Vec<Bound>,
+    bound: &mut BoundNames,
     next: u32,
     arg: Arg,
 ) -> Result<Given, Memory>
-    ensures { Gives tree.now frames.old.items bound.old.items frames.new.items bound.new.items next arg.place arg.value result }
+    ensures { Gives tree.now frames.old.items bound.old frames.new.items bound.new next arg.place arg.value result }
 {
     match frames.pop() {
         None => Ok(Given::Whole),
@@ -140,11 +150,11 @@ pub(crate) fn give(
     alloc: Global,
     tree: &Tree,
     frames: &mut Vec<Frame>,
-    bound: &mut Vec<Bound>,
+    bound: &mut BoundNames,
     next: u32,
     arg: Arg,
 ) -> Result<Next, Memory>
-    ensures { GivesOn tree.now frames.old.items bound.old.items frames.new.items bound.new.items next arg.place arg.value result }
+    ensures { GivesOn tree.now frames.old.items bound.old frames.new.items bound.new next arg.place arg.value result }
 {
     let value = arg.value;
     let mut at = arg.place;

@@ -1,0 +1,181 @@
+//! Checks of the form of lists.
+ghost use Rattle.std.specs.Prelude.{◌≡◌, ◌<◌, ◌≤◌, ◌^◌, ◌*◌, ◌+◌, ◌-◌, ◌&&◌, not, [], false, length, bytes_eq};
+ghost use Rattle.std.specs.List.{list_any};
+ghost use Rattle.smt_names.specs.declared.refusal.Refusal.TheVariants.{BadForm};
+ghost use Rattle.smt_names.specs.Makes.{Checks};
+ghost use Rattle.smt_names.specs.Names.{is_wide, word_of};
+ghost use Rattle.smt_terms.specs.Meant.{no_more, at_least, at_most, exactly, bindings_after, binding_name, attributes_after, attributes_of};
+ghost use Rattle.smt_terms.specs.Cursor.{here, word_at};
+ghost use Rattle.smt_terms.specs.Checks.{Finds, HasBindings};
+
+use crate::cursor::{Seen, behind_one, behind_some, kind_at, look, place_at, text_at};
+use crate::numbers::is_wide;
+use smt_names::{Refusal, Stop, check_lawful_name, is_keyword};
+use smt_text::{Place, Tree};
+use std::alloc::Global;
+use term_table::Name;
+
+/// Refuses a tree that comes next.
+pub fn check_no_more(alloc: Global, tree: &Tree, i: u32, refusal: Refusal) -> Result<(), Stop>
+    ensures { Checks result (no_more refusal (here tree.now i)) }
+{
+    match look(tree, i) {
+        Seen::End => Ok(()),
+        Seen::Token => Err(Stop::at(alloc, refusal, place_at(tree, i))),
+        Seen::List { .. } => Err(Stop::at(alloc, refusal, place_at(tree, i))),
+    }
+}
+
+/// At least so many trees come next. What is missing is bad form at that place.
+pub fn check_at_least(
+    alloc: Global,
+    tree: &Tree,
+    i: u32,
+    count: u32,
+    missing: Place,
+) -> Result<(), Stop>
+    ensures { Checks result (at_least count missing (here tree.now i)) }
+{
+    let mut left = count;
+    let mut at = i;
+    while left > 0 {
+        match look(tree, at) {
+            Seen::End => return Err(Stop::at(alloc, Refusal::BadForm, missing)),
+            Seen::Token => at += 1,
+            Seen::List { after } => at = after,
+        }
+        left -= 1;
+    }
+    Ok(())
+}
+
+/// At most so many trees come next. The first of those that are too many is bad form.
+pub fn check_at_most(alloc: Global, tree: &Tree, i: u32, count: u32) -> Result<(), Stop>
+    ensures { Checks result (at_most count (here tree.now i)) }
+{
+    check_no_more(alloc, tree, behind_some(tree, i, count), Refusal::BadForm)
+}
+
+/// So many trees come next.
+pub fn check_exactly(
+    alloc: Global,
+    tree: &Tree,
+    i: u32,
+    count: u32,
+    missing: Place,
+) -> Result<(), Stop>
+    ensures { Checks result (exactly count missing (here tree.now i)) }
+{
+    check_at_least(alloc, tree, i, count, missing)?;
+    check_at_most(alloc, tree, i, count)
+}
+
+/// Whether the name is one of these.
+fn is_among(names: &[Name], name: &[u8]) -> bool
+    ensures { result ≡ list_any (bytes_eq name.now) names.now }
+{
+    names.iter().any(|n| name == n.as_slice())
+}
+
+/// The token of the name of a binding, whose list begins at a token. It must be lawful and none of these.
+fn check_binding(alloc: Global, tree: &Tree, i: u32, names: &[Name]) -> Result<u32, Stop>
+    requires { i < length tree.now }
+    ensures { Finds tree.now result (binding_name names.now (word_at tree.now i) (here tree.now (i + 1))) }
+{
+    let _len = tree.len();
+    let paren = place_at(tree, i);
+    check_exactly(alloc, tree, i + 1, 2, paren)?;
+    match look(tree, i + 1) {
+        Seen::End => Err(Stop::at(alloc, Refusal::BadForm, paren)),
+        Seen::List { .. } => Err(Stop::at(alloc, Refusal::BadForm, place_at(tree, i + 1))),
+        Seen::Token => {
+            let place = place_at(tree, i + 1);
+            let name = text_at(tree, i + 1);
+            check_lawful_name(alloc, kind_at(tree, i + 1), place, name)?;
+            if is_among(names, name) {
+                return Err(Stop::at(alloc, Refusal::BadForm, place));
+            }
+            Ok(i + 1)
+        }
+    }
+}
+
+/// Bindings come next, to the end of the list, of which none has the name of an earlier one.
+pub fn check_names(alloc: Global, tree: &Tree, i: u32) -> Result<(), Stop>
+    ensures { Checks result (bindings_after [] (here tree.now i)) }
+{
+    let mut names = Vec::new(alloc);
+    let mut at = i;
+    loop {
+        match look(tree, at) {
+            Seen::End => return Ok(()),
+            Seen::Token => return Err(Stop::at(alloc, Refusal::BadForm, place_at(tree, at))),
+            Seen::List { after } => {
+                let name = check_binding(alloc, tree, at, names.as_slice())?;
+                names.push(Name::from_slice(alloc, text_at(tree, name))?)?;
+                at = after;
+            }
+        }
+    }
+}
+
+/// A list of one binding or more comes next. The place behind it.
+pub fn check_bindings(alloc: Global, tree: &Tree, i: u32, missing: Place) -> Result<u32, Stop>
+    ensures { HasBindings tree.now i missing result }
+{
+    match look(tree, i) {
+        Seen::End => Err(Stop::at(alloc, Refusal::BadForm, missing)),
+        Seen::Token => Err(Stop::at(alloc, Refusal::BadForm, place_at(tree, i))),
+        Seen::List { after } => {
+            check_at_least(alloc, tree, i + 1, 1, place_at(tree, i))?;
+            check_names(alloc, tree, i + 1)?;
+            Ok(after)
+        }
+    }
+}
+
+/// Whether a token may be the value of a keyword.
+fn may_be_value(valued: bool, tree: &Tree, i: u32) -> bool
+    ensures { result ≡ (valued && not (is_wide (word_at tree.now i))) }
+{
+    valued && !is_wide(kind_at(tree, i), text_at(tree, i))
+}
+
+/// Attributes come next, to the end of the list.
+fn check_attributes_after(alloc: Global, tree: &Tree, i: u32) -> Result<(), Stop>
+    ensures { Checks result (attributes_after false (here tree.now i)) }
+{
+    let mut valued = false;
+    let mut at = i;
+    loop {
+        match look(tree, at) {
+            Seen::End => return Ok(()),
+            Seen::Token => {
+                if is_keyword(kind_at(tree, at)) {
+                    valued = true;
+                } else {
+                    if !may_be_value(valued, tree, at) {
+                        return Err(Stop::at(alloc, Refusal::BadForm, place_at(tree, at)));
+                    }
+                    valued = false;
+                }
+                at += 1;
+            }
+            Seen::List { after } => {
+                if !valued {
+                    return Err(Stop::at(alloc, Refusal::BadForm, place_at(tree, at)));
+                }
+                valued = false;
+                at = after;
+            }
+        }
+    }
+}
+
+/// A tree and one attribute or more come next, to the end of the list.
+pub fn check_attributes(alloc: Global, tree: &Tree, i: u32, head: Place) -> Result<(), Stop>
+    ensures { Checks result (attributes_of head (here tree.now i)) }
+{
+    check_at_least(alloc, tree, i, 2, head)?;
+    check_attributes_after(alloc, tree, behind_one(tree, i))
+}

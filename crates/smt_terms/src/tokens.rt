@@ -1,0 +1,131 @@
+//! What tokens stand for.
+ghost use Rattle.std.specs.Prelude.{◌≡◌, option_copied, true, List, not, ◌||◌, is_some};
+ghost use Rattle.smt_text.specs.declared.token.Kind.TheVariants.{Symbol};
+ghost use Rattle.smt_names.specs.declared.bound.Bound.{Bound};
+ghost use Rattle.smt_names.specs.Making.{row};
+ghost use Rattle.smt_names.specs.Makes.{Makes};
+ghost use Rattle.smt_names.specs.Names.{State, named, bound_as, word_of};
+ghost use Rattle.smt_terms.specs.Terms.{stood_for, free_value, name_value, token_value};
+ghost use Rattle.smt_terms.specs.Cursor.{word_at};
+ghost use Rattle.smt_terms.specs.Machine.{scope_of};
+
+use crate::applying::put_applied;
+use crate::cursor::{kind_at, place_at, text_at};
+use crate::frame::Inside;
+use formula_shape::{ShapeDraft, ShapeFault, ShapeRow};
+use smt_names::{BoundNames, Head, Refusal, SessionState, Stands, Stop, Value, is_reserved};
+use smt_text::{Kind, Place, Tree};
+use std::alloc::Global;
+
+/// The number of a row, which is put at a place.
+fn put_row(
+    alloc: Global,
+    draft: &mut ShapeDraft,
+    at: Place,
+    new: ShapeRow,
+) -> Result<u32, Stop>
+    ensures { Makes result draft.old draft.new (row at new) }
+{
+    match draft.row(new) {
+        Ok(n) => Ok(n),
+        Err(ShapeFault::RowsFull) => Err(Stop::at(alloc, Refusal::TermsFull, at)),
+        Err(ShapeFault::NodesFull) => Err(Stop::Memory),
+        Err(ShapeFault::Memory) => Err(Stop::Memory),
+    }
+}
+
+/// Whether a value may stand where it does: inside a forall a formula must have a complement.
+fn may_stand(inside: Inside, complement: Option<u32>) -> bool
+    ensures { result ≡ (not inside.in_forall || is_some complement) }
+{
+    !inside.in_forall || complement.is_some()
+}
+
+/// What a bound name stands for.
+fn put_stands(
+    alloc: Global,
+    draft: &mut ShapeDraft,
+    inside: Inside,
+    at: Place,
+    stands: Stands,
+) -> Result<Value, Stop>
+    ensures { (state : State) (bound : List Bound) → Makes result draft.old draft.new (stood_for (scope_of state inside bound) at stands) }
+{
+    match stands {
+        Stands::Given(Value::Term { row, sort }) => Ok(Value::Term { row, sort }),
+        Stands::Given(Value::Formula { itself, complement }) => {
+            if may_stand(inside, complement) {
+                Ok(Value::Formula { itself, complement })
+            } else {
+                Err(Stop::at(alloc, Refusal::NotInProfile, at))
+            }
+        }
+        Stands::Variable { index, sort } => {
+            let row = put_row(alloc, draft, at, ShapeRow::Var { index })?;
+            Ok(Value::Term { row, sort })
+        }
+    }
+}
+
+/// What a name without arguments stands for that is not bound.
+fn put_free(
+    alloc: Global,
+    draft: &mut ShapeDraft,
+    state: &SessionState,
+    at: Place,
+    name: &[u8],
+) -> Result<Value, Stop>
+    ensures { Makes result draft.old draft.new (free_value (word_of Symbol at name.now) (named state.now name.now)) }
+{
+    match state.head(name) {
+        Head::Unknown => {
+            if is_reserved(name) {
+                Err(Stop::at(alloc, Refusal::BadForm, at))
+            } else {
+                Err(Stop::of_name(alloc, Refusal::UnknownName, at, name))
+            }
+        }
+        head => put_applied(alloc, draft, state, at, at, name, head, &[]),
+    }
+}
+
+/// What a name without arguments stands for.
+fn put_name(
+    alloc: Global,
+    draft: &mut ShapeDraft,
+    state: &SessionState,
+    bound: &BoundNames,
+    inside: Inside,
+    at: Place,
+    name: &[u8],
+) -> Result<Value, Stop>
+    ensures { Makes result draft.old draft.new (name_value (scope_of state.now inside bound.now) (word_of Symbol at name.now) (bound_as bound.now name.now)) }
+{
+    match bound.find(name) {
+        Some(b) => put_stands(alloc, draft, inside, at, b.stands),
+        None => put_free(alloc, draft, state, at, name),
+    }
+}
+
+/// What a token stands for.
+#[tactic(auto, unfolding(crate::specs::Terms::token_value))]
+pub(crate) fn put_token(
+    alloc: Global,
+    draft: &mut ShapeDraft,
+    state: &SessionState,
+    tree: &Tree,
+    bound: &BoundNames,
+    inside: Inside,
+    i: u32,
+) -> Result<Value, Stop>
+    ensures { Makes result draft.old draft.new (token_value (scope_of state.now inside bound.now) (word_at tree.now i)) }
+{
+    let place = place_at(tree, i);
+    match kind_at(tree, i) {
+        Kind::Symbol => put_name(alloc, draft, state, bound, inside, place, text_at(tree, i)),
+        Kind::Left | Kind::Right | Kind::Keyword => Err(Stop::at(alloc, Refusal::BadForm, place)),
+        Kind::Numeral | Kind::Decimal | Kind::Hex | Kind::Binary | Kind::Text => {
+            Err(Stop::at(alloc, Refusal::NotInProfile, place))
+        }
+    }
+}
