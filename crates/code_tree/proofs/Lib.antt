@@ -1,0 +1,5 @@
+pub mod IndexLemmas
+pub mod WayLemmas
+pub mod NodeLemmas
+pub mod FrontLemmas
+pub mod ForestLemmas
