@@ -10,7 +10,6 @@ use Rattle.term_table.specs.LawfulLaws.{terms_of-push}
 use Rattle.term_table.specs.Standing.{terms_of}
 use Rattle.term_table.specs.State.{GraphState, state_after}
 use Rattle.ematch_cli.specs.Run.{placed, EntersRow, Enters, HasNoRoomFor, HaveNoRoom}
-use Rattle.ematch_cli.specs.Entered.{AreTermsOf}
 use Rattle.ematch_cli.proofs.TreeSizes.{drop_at}
 
 -- the first rows were entered, under these terms, from the old graph to the new

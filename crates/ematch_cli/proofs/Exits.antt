@@ -1,5 +1,5 @@
 -- What a run leaves at each of its ends.
-use Rattle.std.proofs.Common.{◌≡◌, ◌≢◌, ◌⊎◌, inl, inr, ℕ, Bool, true, false, List, [], ◌∷◌, ◌++◌, refl, ap, sym, ◌∙◌, Option, Some, None, append_assoc, subst}
+use Rattle.std.proofs.Common.{◌≡◌, ◌≢◌, ◌⊎◌, inl, inr, ℕ, Bool, true, false, List, [], ◌++◌, refl, ap, sym, ◌∙◌, Option, Some, None, append_assoc, subst}
 use Rattle.std.specs.Prelude.{IfSome, Ok, Err}
 use Rattle.std.specs.Io.KnownBytes.{Consumes}
 use Rattle.std.proofs.lemmas.List.{append-nil}
@@ -8,18 +8,17 @@ use Rattle.em_outside.specs.BytesLaws.{Appended-none, Appended-then, Consumes-to
 use Rattle.em_outside.specs.declared.limits.Limits.{Limits}
 use Rattle.smt_text.specs.Word.{Word}
 use Rattle.smt_text.specs.Script.{Script, End, Fault, Command, IsOpen, script_of}
-use Rattle.smt_text.specs.ByteFault.{IsLasting, text_fault, in_bytes}
+use Rattle.smt_text.specs.ByteFault.{text_fault, in_bytes}
 use Rattle.smt_text.specs.Reading.{Reading, script, Reads, Refuses, AtByte, AtEnd, Answers as ReaderAnswers}
 use Rattle.smt_text.specs.declared.byte_fault.ByteFault.{ByteFault}
 use Rattle.smt_text.specs.declared.byte_fault.ByteFault.TheVariants.{BadByte, Unclosed, Stray, TooDeep, TooLong}
-use Rattle.smt_text.specs.declared.token.Place.{Place}
 use Rattle.smt_text.specs.declared.fault.TextFault.{TextFault}
 use Rattle.smt_text.specs.declared.fault.TextFault.TheVariants as fault
 use Rattle.ematch_cli.specs.Run.{RunState, Replies, IsRefused}
-use Rattle.ematch_cli.specs.Output.{Answer, Ending, Open, Finished, Failed, IsAnswer, behind, failure, silence, at_end, opening, IsOutput, IsOutputSoFar}
+use Rattle.ematch_cli.specs.Output.{Answer, Open, Finished, Failed, IsAnswer, behind, failure, silence, at_end, opening, IsOutput}
 use Rattle.ematch_cli.specs.ErrorLine.{fault_line, not_built}
 use Rattle.ematch_cli.specs.WritesError.{WritesError}
-use Rattle.ematch_cli.specs.Headline.{Wrote, BeginsWith, WroteFront, WroteFrontOf, Stands, IsUndisturbed, Answers}
+use Rattle.ematch_cli.specs.Headline.{Wrote, BeginsWith, WroteFront, WroteFrontOf, Answers}
 use Rattle.ematch_cli.specs.declared.status.Status.{Status}
 use Rattle.ematch_cli.specs.declared.status.Status.TheVariants as status
 use Rattle.ematch_cli.proofs.OneAnswer.{answer_once}

@@ -4,7 +4,6 @@ use Rattle.std.specs.List.{before_last}
 use Rattle.std.proofs.lemmas.List.{take_more, take_all}
 use Rattle.std.proofs.lemmas.List.Sums.{sum_by-append}
 use Rattle.term_table.specs.declared.done.Done.{Done}
-use Rattle.term_table.specs.declared.op.Op.{Op}
 use Rattle.term_table.specs.declared.op.Op.TheVariants.{Add, Merge, Live, Push, Pop}
 use Rattle.term_table.specs.declared.term_row.TermRow.{TermRow}
 use Rattle.term_table.specs.declared.trigger.Trigger.{Trigger}

@@ -1,5 +1,5 @@
 -- A trigger stays valid under another number of its forall.
-use Rattle.std.proofs.Common.{◌≡◌, ℕ, ◌<◌, List, length}
+use Rattle.std.proofs.Common.{ℕ, List}
 use Rattle.term_table.specs.declared.trigger.Trigger.{Trigger}
 use Rattle.term_table.specs.Trigger.{Occurs, at_root, below, IsValid}
 

@@ -1,21 +1,19 @@
 -- Each script has one answer at most.
-use Rattle.std.proofs.Common.{◌≡◌, ℕ, ◌+◌, ◌<◌, ◌⊎◌, inl, inr, Bool, true, false, List, [], ◌∷◌, ◌++◌, length, get_or, Option, Some, None, refl, sym, ap, ap₂, subst, ◌∙◌, ⊎_elim, arith}
+use Rattle.std.proofs.Common.{◌≡◌, ℕ, ◌<◌, inl, inr, Bool, List, [], ◌∷◌, ◌++◌, length, Some, sym, ap, ap₂, subst, ◌∙◌, arith}
 use Rattle.term_table.specs.declared.term_row.TermRow.{TermRow}
-use Rattle.term_table.specs.declared.op.Op.TheVariants.{Add, Merge, Push, Pop}
-use Rattle.term_table.specs.Terms.{HasRow, IsAbsent}
 use Rattle.term_table.specs.Standing.{terms_of}
-use Rattle.term_table.specs.State.{GraphState, state_after}
+use Rattle.term_table.specs.State.{GraphState}
 use Rattle.smt_text.specs.Word.{Word}
 use Rattle.smt_text.specs.Script.{Script, End, Fault, Command}
 use Rattle.smt_syntax.specs.State.{State}
-use Rattle.smt_syntax.specs.Elaborate.{elaborate, Elaborates}
+use Rattle.smt_syntax.specs.Elaborate.{Elaborates}
 use Rattle.smt_syntax.specs.declared.command.Command as syntax
 use Rattle.smt_syntax.specs.declared.command.Command.TheVariants as command
 use Rattle.smt_syntax.specs.declared.shape.Shape.{Shape}
 use Rattle.smt_syntax.specs.declared.shape.Shape.TheVariants.{Equation, Forall}
 use Rattle.ematch_cli.specs.Names.{names_of}
-use Rattle.ematch_cli.specs.Run.{placed, EntersRow, Enters, HasNoRoomFor, HaveNoRoom, merged, Asserts, AsksTooMuch, Acts, NeedsTooMuch, RunState, Replies, HasNoRoom, IsRefused}
-use Rattle.ematch_cli.specs.Output.{Answer, IsAnswer, behind, failure, at_end, at_fault}
+use Rattle.ematch_cli.specs.Run.{placed, EntersRow, Enters, HasNoRoomFor, HaveNoRoom, merged, Asserts, AsksTooMuch, Acts, NeedsTooMuch, RunState, Replies, IsRefused}
+use Rattle.ematch_cli.specs.Output.{Answer, IsAnswer, behind}
 use Rattle.ematch_cli.proofs.OneText.{listing_once}
 
 -- a row is entered in one way

@@ -1,24 +1,21 @@
 -- How far a run has come, and what it leaves where it ends.
-use Rattle.std.proofs.Common.{◌≡◌, ◌≢◌, ◌⊎◌, inl, inr, ℕ, Bool, true, false, List, [], ◌∷◌, ◌++◌, refl, ap, sym, ◌∙◌, Option, Some, None, append_assoc, subst}
-use Rattle.std.specs.Prelude.{IfSome, Ok, Err}
+use Rattle.std.proofs.Common.{◌≡◌, inl, inr, ℕ, Bool, true, false, List, [], ◌∷◌, ◌++◌, refl, ap, sym, ◌∙◌, Option, append_assoc, subst}
 use Rattle.std.specs.Io.KnownBytes.{Consumes}
 use Rattle.std.proofs.lemmas.List.{append-nil}
-use Rattle.em_outside.specs.Bytes.{Appended, Exhausts}
-use Rattle.em_outside.specs.BytesLaws.{Appended-none, Appended-then, Consumes-none, Consumes-then, Consumes-told, Exhausts-then}
+use Rattle.em_outside.specs.Bytes.{Appended}
+use Rattle.em_outside.specs.BytesLaws.{Appended-none, Appended-then, Consumes-none, Consumes-then}
 use Rattle.em_outside.specs.declared.limits.Limits.{Limits}
 use Rattle.smt_text.specs.Word.{Word}
 use Rattle.smt_text.specs.Script.{Script, End, Fault, Command, IsOpen, script_of}
 use Rattle.smt_text.specs.ByteFault.{IsLasting}
-use Rattle.smt_text.specs.Reading.{Reading, script, start, Reads, Refuses, AtByte, AtEnd}
+use Rattle.smt_text.specs.Reading.{Reading, script, start}
 use Rattle.smt_text.specs.declared.byte_fault.ByteFault.{ByteFault}
 use Rattle.smt_text.specs.declared.byte_fault.ByteFault.TheVariants.{BadByte, Unclosed, Stray, TooDeep, TooLong}
 use Rattle.smt_text.specs.declared.token.Place.{Place}
-use Rattle.smt_text.specs.declared.fault.TextFault.TheVariants as fault
 use Rattle.ematch_cli.specs.Run.{RunState, Replies, IsRefused}
-use Rattle.ematch_cli.specs.Output.{Answer, Ending, Open, Finished, Failed, IsAnswer, behind, failure, silence, at_end, at_fault, opening, IsOutput, IsOutputSoFar}
+use Rattle.ematch_cli.specs.Output.{Answer, Open, Finished, Failed, IsAnswer, behind, failure, silence, at_end, opening, IsOutputSoFar}
 use Rattle.ematch_cli.specs.ErrorLine.{fault_line, not_built}
-use Rattle.ematch_cli.specs.Headline.{Wrote, BeginsWith, WroteFront, WroteFrontOf, Stands, IsUndisturbed, Answers}
-use Rattle.ematch_cli.specs.declared.status.Status.{Status}
+use Rattle.ematch_cli.specs.Headline.{BeginsWith, WroteFrontOf, Answers}
 use Rattle.ematch_cli.specs.declared.status.Status.TheVariants as status
 use Rattle.ematch_cli.proofs.OneAnswer.{replies_once, refused_replies}
 

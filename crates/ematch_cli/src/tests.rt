@@ -170,7 +170,7 @@ fn the_end_inside_a_command_is_an_error_where_it_is_known(rt: HostRuntime) -> Re
 #[test]
 fn a_fault_of_the_bytes_has_its_line(rt: HostRuntime) -> Result<(), Fail> {
     let limits = Limits {
-        bytes: 21,
+        bytes: 24,
         depth: 2,
         ..Limits::standard()
     };
@@ -192,13 +192,10 @@ fn a_fault_of_the_bytes_has_its_line(rt: HostRuntime) -> Result<(), Fail> {
             "(error \"line 1 column 3: too many open parentheses\")\n",
         ),
         (
-            "(check-sat) (check-sat)",
-            "settled\n(error \"line 1 column 22: the script is too long\")\n",
+            "(check-sat)\n(check-sat)\n {",
+            "settled\nsettled\n(error \"line 3 column 1: the script is too long\")\n",
         ),
-        (
-            "(set-logic UF) (",
-            "(error \"not built yet\")\n",
-        ),
+        ("(set-logic UF) (", "(error \"not built yet\")\n"),
     ];
     for (script, answer) in scripts {
         for piece in [1, 4096] {

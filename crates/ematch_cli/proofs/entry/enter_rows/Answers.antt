@@ -1,8 +1,8 @@
-use Rattle.std.proofs.Common.{◌≡◌, ℕ, ◌+◌, ◌<◌, List, ◌++◌, ◌∷◌, [], All, map, get_or, length, Some, refl, sym, ap, ap₂, subst, ◌∙◌, arith}
+use Rattle.std.proofs.Common.{◌≡◌, ℕ, ◌+◌, ◌<◌, List, All, map, get_or, length, sym, ap₂, subst, ◌∙◌}
 use Rattle.term_table.specs.Terms.{term_row}
 use Rattle.term_table.specs.Standing.{terms_of}
 use Rattle.ematch_cli.specs.Run.{EntersRow, HasNoRoomFor}
-use Rattle.ematch_cli.proofs.Entering.{AreUnderWay, under_way_none, under_way_more, under_way_full, under_way_all, placed_terms}
+use Rattle.ematch_cli.proofs.Entering.{AreUnderWay, under_way_none, under_way_more, under_way_full, placed_terms}
 use Rattle.ematch_cli.proofs.entry.enter_rows.Goals as goal
 
 -- arguments that were placed are those of the row, as terms

@@ -1,4 +1,4 @@
-use Rattle.std.proofs.Common.{◌≡◌, ◌+◌, ◌-◌, arith}
+use Rattle.std.proofs.Common.{◌-◌, arith}
 use Rattle.term_table.specs.Standing.{terms_of}
 use Rattle.ematch_cli.proofs.TreeSizes.{not_none, counted_none, counted_more, too_many, all_counted}
 use Rattle.ematch_cli.proofs.printed.+left_after.Goals as goal

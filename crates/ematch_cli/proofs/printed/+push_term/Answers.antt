@@ -1,4 +1,4 @@
-use Rattle.std.proofs.Common.{◌≡◌, ◌++◌, ◌∷◌, [], ap, ◌∙◌, arith}
+use Rattle.std.proofs.Common.{◌++◌, ◌∷◌, [], ap, ◌∙◌, arith}
 use Rattle.term_table.specs.Standing.{terms_of}
 use Rattle.ematch_cli.specs.Names.{names_of}
 use Rattle.ematch_cli.specs.Printed.{symbol_text}

@@ -1,4 +1,4 @@
-use Rattle.std.proofs.Common.{◌≡◌, ◌++◌, ◌∷◌, [], refl}
+use Rattle.std.proofs.Common.{◌∷◌, [], refl}
 use Rattle.ematch_cli.proofs.Texts.{put_two}
 use Rattle.ematch_cli.proofs.printed.push_entry.Goals as goal
 

@@ -1,6 +1,6 @@
-use Rattle.std.proofs.Common.{rules, ◌≡◌, ◌≤◌, length, List, ℕ, arith, sym, ◌∙◌, ap, subst}
+use Rattle.std.proofs.Common.{length, List, ℕ, arith, sym, ◌∙◌, ap, subst}
 use Rattle.term_table.specs.Standing.{levels_of}
-use Rattle.term_table.specs.State.{GraphState, first_state}
+use Rattle.term_table.specs.State.{GraphState}
 use Rattle.smt_text.specs.Reading.{Reading}
 use Rattle.smt_syntax.specs.State.{State, start as start_state}
 use Rattle.em_outside.specs.Bytes.{Appended}

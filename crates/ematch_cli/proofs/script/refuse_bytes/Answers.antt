@@ -1,4 +1,4 @@
-use Rattle.std.proofs.Common.{[], refl, inr, ◌∙◌}
+use Rattle.std.proofs.Common.{[], refl, inr}
 use Rattle.em_outside.specs.BytesLaws.{Appended-none}
 use Rattle.ematch_cli.proofs.script.refuse_bytes.Goals as goal
 
