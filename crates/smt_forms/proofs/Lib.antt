@@ -1,2 +1,4 @@
 pub mod Wanted
 pub mod Lists
+pub mod MovedLemmas
+pub mod Heads
