@@ -109,13 +109,17 @@ neighbours at a (b ∷ parts) = do
   others ← neighbours at b parts
   made (first ∷ others)
 
+-- each part equals the next
+abbrev pub all_equal : Place → Value → List Value → Making Value
+all_equal at a parts = do
+  equations ← neighbours at a parts
+  and_form at equations
+
 abbrev pub equal_form : Place → List Value → Making Value
 equal_form at [] = bad_form at
 equal_form at (a ∷ []) = bad_form at
 equal_form at (a ∷ b ∷ []) = equal_of_two at a b
-equal_form at (a ∷ b ∷ c ∷ parts) = do
-  equations ← neighbours at a (b ∷ c ∷ parts)
-  and_form at equations
+equal_form at (a ∷ b ∷ c ∷ parts) = all_equal at a (b ∷ c ∷ parts)
 
 abbrev pub distinct_of_two : Place → Value → Value → Making Value
 distinct_of_two at a b = do
@@ -142,14 +146,22 @@ distinct_pairs at (a ∷ parts) = do
 abbrev pub never : Place → Option (List ℕ) → Making Value
 never at against = both at (Or []) (option_map (λ _. And []) against)
 
+-- each part differs from each that follows
+abbrev pub all_distinct : Place → List Value → Making Value
+all_distinct at parts = do
+  differences ← distinct_pairs at parts
+  and_form at differences
+
+-- three or more, by the first of them
+abbrev pub distinct_of_many : Place → Value → List Value → Making Value
+distinct_of_many at (Formula a a') parts = never at (complements parts)
+distinct_of_many at (Term a sort) parts = all_distinct at parts
+
 abbrev pub distinct_form : Place → List Value → Making Value
 distinct_form at [] = bad_form at
 distinct_form at (a ∷ []) = bad_form at
 distinct_form at (a ∷ b ∷ []) = distinct_of_two at a b
-distinct_form at (Formula a a' ∷ b ∷ c ∷ parts) = never at (complements (Formula a a' ∷ b ∷ c ∷ parts))
-distinct_form at (Term a sort ∷ b ∷ c ∷ parts) = do
-  differences ← distinct_pairs at (Term a sort ∷ b ∷ c ∷ parts)
-  and_form at differences
+distinct_form at (a ∷ b ∷ c ∷ parts) = distinct_of_many at a (a ∷ b ∷ c ∷ parts)
 
 -- the complement of an ite, where both branches have one
 abbrev pub ite_complement : Place → Value → Option (List ℕ) → Making (Option ShapeNode)

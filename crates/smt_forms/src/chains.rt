@@ -1,7 +1,7 @@
 //! `xor`, `=` and `distinct` of any number.
 ghost use Rattle.std.specs.Prelude.{◌≡◌};
 ghost use Rattle.smt_names.specs.Makes.{Makes, MakesItems};
-ghost use Rattle.smt_forms.specs.Nodes.{xor_form, xor_from, neighbours, equal_form, distinct_from, distinct_pairs, distinct_form, never, complements};
+ghost use Rattle.smt_forms.specs.Nodes.{xor_form, xor_from, neighbours, all_equal, equal_form, distinct_from, distinct_pairs, all_distinct, distinct_of_many, distinct_form, never, complements};
 
 use crate::equality::{put_distinct_of_two, put_equal_of_two, put_xor_of_two};
 use crate::forms::put_and;
@@ -69,6 +69,20 @@ fn put_neighbours(
     Ok(equations)
 }
 
+/// A value and others, each equal to the next.
+fn put_all_equal(
+    alloc: Global,
+    draft: &mut ShapeDraft,
+    at: Place,
+    first: &Value,
+    parts: &[Value],
+) -> Result<Value, Stop>
+    ensures { Makes result draft.old draft.new (all_equal at first.now parts.now) }
+{
+    let equations = put_neighbours(alloc, draft, at, first, parts)?;
+    put_and(alloc, draft, at, &equations)
+}
+
 /// `=`.
 pub(crate) fn put_equal(
     alloc: Global,
@@ -82,10 +96,7 @@ pub(crate) fn put_equal(
         [] => Err(Stop::at(alloc, Refusal::BadForm, at)),
         [_] => Err(Stop::at(alloc, Refusal::BadForm, at)),
         [a, b] => put_equal_of_two(alloc, draft, at, a, b),
-        [a, others @ ..] => {
-            let equations = put_neighbours(alloc, draft, at, a, others)?;
-            put_and(alloc, draft, at, &equations)
-        }
+        [a, others @ ..] => put_all_equal(alloc, draft, at, a, others),
     }
 }
 
@@ -155,6 +166,35 @@ fn put_never(
     }
 }
 
+/// Values of which each differs from each that follows.
+fn put_all_distinct(
+    alloc: Global,
+    draft: &mut ShapeDraft,
+    at: Place,
+    parts: &[Value],
+) -> Result<Value, Stop>
+    ensures { Makes result draft.old draft.new (all_distinct at parts.now) }
+{
+    let differences = put_distinct_pairs(alloc, draft, at, parts)?;
+    put_and(alloc, draft, at, &differences)
+}
+
+/// `distinct` of three or more, by the first of them.
+fn put_distinct_of_many(
+    alloc: Global,
+    draft: &mut ShapeDraft,
+    at: Place,
+    first: &Value,
+    parts: &[Value],
+) -> Result<Value, Stop>
+    ensures { Makes result draft.old draft.new (distinct_of_many at first.now parts.now) }
+{
+    match first {
+        Value::Formula { .. } => put_never(alloc, draft, at, parts),
+        Value::Term { .. } => put_all_distinct(alloc, draft, at, parts),
+    }
+}
+
 /// `distinct`.
 pub(crate) fn put_distinct(
     alloc: Global,
@@ -168,10 +208,6 @@ pub(crate) fn put_distinct(
         [] => Err(Stop::at(alloc, Refusal::BadForm, at)),
         [_] => Err(Stop::at(alloc, Refusal::BadForm, at)),
         [a, b] => put_distinct_of_two(alloc, draft, at, a, b),
-        [Value::Formula { .. }, ..] => put_never(alloc, draft, at, parts),
-        [Value::Term { .. }, ..] => {
-            let differences = put_distinct_pairs(alloc, draft, at, parts)?;
-            put_and(alloc, draft, at, &differences)
-        }
+        [a, ..] => put_distinct_of_many(alloc, draft, at, a, parts),
     }
 }

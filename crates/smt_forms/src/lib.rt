@@ -13,4 +13,5 @@ mod moved;
 mod parts;
 mod put;
 
+pub use applied::apply;
 pub use put::{put_node, put_row};

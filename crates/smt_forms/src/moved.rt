@@ -1,6 +1,7 @@
 //! What an application of a definition puts.
-ghost use Rattle.std.specs.Prelude.{◌≡◌, ◌∷◌, [], map, get_or, IfOk};
+ghost use Rattle.std.specs.Prelude.{◌≡◌, ◌<◌, ◌+◌, ◌∷◌, [], length, drop, map, get_or, IfOk};
 ghost use Rattle.smt_names.specs.Value.{row_of};
+ghost use Rattle.smt_names.specs.Making.{node as node_put_at};
 ghost use Rattle.smt_names.specs.Names.{defined_as};
 ghost use Rattle.smt_names.specs.Makes.{Makes, MakesItems};
 ghost use Rattle.smt_forms.specs.Moved.{moved_numbers, moved_row, moved_rows, moved_node, moved_nodes, moved_value, unfolded};
@@ -65,6 +66,14 @@ fn put_moved_row(
     }
 }
 
+/// The row with this number, the first of those from it on.
+fn row_from(source: &ShapeDraft, i: u32) -> &ShapeRow
+    requires { i < length source.now.rows }
+    ensures { drop i source.now.rows ≡ result.now ∷ drop (i + 1) source.now.rows }
+{
+    source.row_at(i)
+}
+
 /// Puts the rows of a definition. The numbers that they get.
 fn put_moved_rows(
     alloc: Global,
@@ -78,8 +87,10 @@ fn put_moved_rows(
     let mut rows = Vec::new(alloc);
     let mut i = 0;
     while i < source.rows() {
-        let row = put_moved_row(alloc, draft, at, args, &rows, source.row_at(i))?;
-        rows.push(row)?;
+        match put_moved_row(alloc, draft, at, args, &rows, row_from(source, i)) {
+            Err(stop) => return Err(stop),
+            Ok(row) => rows.push(row)?,
+        }
         i += 1;
     }
     Ok(rows)
@@ -120,6 +131,29 @@ fn move_node(
     }
 }
 
+/// Puts a node of a definition, with what its rows and the nodes before it became.
+fn put_moved_node(
+    alloc: Global,
+    draft: &mut ShapeDraft,
+    at: Place,
+    rows: &[u32],
+    nodes: &[u32],
+    node: &ShapeNode,
+) -> Result<u32, Stop>
+    ensures { Makes result draft.old draft.new (node_put_at at (moved_node rows.now nodes.now node.now)) }
+{
+    let moved = move_node(alloc, rows, nodes, node)?;
+    put_node(alloc, draft, at, moved)
+}
+
+/// The node with this number, the first of those from it on.
+fn node_from(source: &ShapeDraft, i: u32) -> &ShapeNode
+    requires { i < length source.now.nodes }
+    ensures { drop i source.now.nodes ≡ result.now ∷ drop (i + 1) source.now.nodes }
+{
+    source.node_at(i)
+}
+
 /// Puts the nodes of a definition. The numbers that they get.
 fn put_moved_nodes(
     alloc: Global,
@@ -133,9 +167,10 @@ fn put_moved_nodes(
     let mut nodes = Vec::new(alloc);
     let mut i = 0;
     while i < source.nodes() {
-        let moved = move_node(alloc, rows, &nodes, source.node_at(i))?;
-        let node = put_node(alloc, draft, at, moved)?;
-        nodes.push(node)?;
+        match put_moved_node(alloc, draft, at, rows, &nodes, node_from(source, i)) {
+            Err(stop) => return Err(stop),
+            Ok(node) => nodes.push(node)?,
+        }
         i += 1;
     }
     Ok(nodes)

@@ -265,6 +265,11 @@ with_function name signature state = record state { functions = state.functions 
 abbrev pub defined_as : List ℕ → definition.Definition → Defined
 defined_as name d = record { name = name; parameters = d.parameters; sort = d.sort; rows = d.draft.rows; nodes = d.draft.nodes; value = d.value }
 
+-- the definition that stands there under some name, or none
+abbrev pub DefinedAt : Option Defined → Option definition.Definition → Type 0
+DefinedAt there None = there ≡ None
+DefinedAt there (Some d) = (name : List ℕ) × (there ≡ Some (defined_as name d))
+
 -- a definition more
 abbrev pub with_definition : List ℕ → definition.Definition → State → State
 with_definition name d state = record state { definitions = state.definitions ++ defined_as name d ∷ [] }
