@@ -8,7 +8,9 @@ mod form;
 mod frame;
 mod giving;
 mod numbers;
+mod opening;
 mod tokens;
+mod walking;
 
 pub use cursor::{Binding, Seen, behind_one, behind_some, binding_at, kind_at, look, place_at, text_at};
 pub use frame::Inside;
