@@ -61,13 +61,13 @@ module _ (words : List Word) (i after : ℕ) (state : State) (inside : Inside) (
       bindings : Making Value
       bindings = some_bindings head (here words (i + 2)) >>= after_bindings
 
-  pub opens_let : (body j : ℕ) (later : List Bound) → ((draft : Draft) → exactly 2 head (here words (i + 2)) draft ≡ Ok (tt {0}, draft)) → HasBindings words (i + 2) head (Ok body)
+  pub opens_let : (body j : ℕ) (later none : List Bound) → none ≡ [] → ((draft : Draft) → exactly 2 head (here words (i + 2)) draft ≡ Ok (tt {0}, draft)) → HasBindings words (i + 2) head (Ok body)
       → ((state : State) (inside : Inside) (missing : Place) (draft : Draft) → GoesOn words state inside missing new later draft (base_of (reverse old) bound)
-          (1 + weight words (here words (i + 2 + 1)) + weight words (here words body) + weight words (here words after) + load words (reverse old)) (step.At j) (binds_in words old bound paren head after [] (i + 2 + 1) body state inside draft))
+          (1 + weight words (here words (i + 2 + 1)) + weight words (here words body) + weight words (here words after) + load words (reverse old)) (step.At j) (binds_in words old bound paren head after none (i + 2 + 1) body state inside draft))
       → Opens words state inside old bound new later i after (3 + work_in words old (i + 2) after) (let_value (word_at words (i + 1)).place (here words (i + 2))) (Ok (opened.At j))
   unfolding weight
-  opens_let body j later two has goes missing draft =
-    let g = goes state inside missing draft in
+  opens_let body j later none empty two has goes missing draft =
+    let g = subst (λ (ns : List Bound). GoesOn words state inside missing new later draft (base_of (reverse old) bound) (1 + weight words (here words (i + 2 + 1)) + weight words (here words body) + weight words (here words after) + load words (reverse old)) (step.At j) (binds_in words old bound paren head after ns (i + 2 + 1) body state inside draft)) empty (goes state inside missing draft) in
     let w : weight words (here words (i + 2)) ≡ 3 + weight words (here words (i + 2 + 1)) + weight words (here words body) = ap (weight words) has.0.is in
     rw (← at_paren, ← at_head)
       (ap (then_from (λ (v : Value). finish words (scope_of state inside bound) (reverse old) (here words after) paren v)) (let_means body (scope_of state inside bound) draft (two draft) (has.1 draft) has.0) ∙ g.0,
@@ -99,7 +99,7 @@ module _ (words : List Word) (i after : ℕ) (state : State) (inside : Inside) (
   pub opens_application : (called : Head) (args : Vec Arg Global) → bound_as bound (word_at words (i + 1)).text ≡ None → called ≡ head_of state (word_at words (i + 1)).text
       → is_known (named_by state called) ≡ true → args.items ≡ []
       → new ≡ old ++ record { paren = paren; head = head; after = after; work = Apply (i + 1) called args } ∷ []
-      → Opens words state inside old bound new bound i after (3 + work_in words old (i + 2) after) (unbound_value (word_at words i).place (word_at words (i + 1)) (here words (i + 2)) (bound_as bound (word_at words (i + 1)).text)) (Ok (opened.At (i + 2)))
+      → Opens words state inside old bound new bound i after (3 + work_in words old (i + 2) after) (form_value (word_at words i).place (word_at words (i + 1)) (here words (i + 2)) form.Application) (Ok (opened.At (i + 2)))
   unfolding weight load base_of
   opens_application called args free stands known none is missing draft =
     let f : Frame = record { paren = paren; head = head; after = after; work = Apply (i + 1) called args } in

@@ -25,9 +25,9 @@ use Rattle.smt_terms.specs.declared.frame.Next.TheVariants as step
 use Rattle.smt_terms.specs.declared.frame.Step.{Step}
 use Rattle.smt_terms.specs.declared.frame.Step.TheVariants as kind
 use Rattle.smt_terms.specs.Meant.{Meant, Meaning, End, Token, Group}
-use Rattle.smt_terms.specs.Terms.{value, token_value, list_value}
+use Rattle.smt_terms.specs.Terms.{value, token_value, list_value, forall_value}
 use Rattle.smt_terms.specs.Cursor.{word_at, here, SeesList, SeesToken}
-use Rattle.smt_terms.specs.Machine.{outside, goes_by, finish, resume, weight, load, base_of, bound_round, weight_by, scope_of, rest_of, work_of, work_in, given_to, GoesOn, GivesOn, Opens, Progress, Before, Steps, step_of, step_for}
+use Rattle.smt_terms.specs.Machine.{outside, goes_by, finish, resume, weight, load, base_of, bound_round, weight_by, scope_of, rest_of, work_of, work_in, given_to, GoesOn, GivesOn, Opens, IsUniversalAt, Progress, Before, Steps, step_of, step_for}
 use Rattle.smt_terms.proofs.Machines.{pushed, at_token, at_list}
 use Rattle.smt_terms.proofs.Openings.{refuses_same}
 
@@ -84,6 +84,26 @@ module _ (words : List Word) (state : State) (inside : Inside) (missing : Place)
   unfolding weight
   list_less after sees = omega (arith, ap (weight words) sees.is)
 
+  pub forall_less : (after : ℕ) → SeesList words i after → work_of words frames after < work_of words frames i
+  unfolding weight
+  forall_less after sees = omega (arith, ap (weight words) sees.is)
+
+  -- a forall
+  module _ (after : ℕ) (sees : SeesList words i after) (universal : IsUniversalAt words inside i) where
+    forall_here : rest_of words state inside missing frames bound i draft
+        ≡ then_from (λ (u : Value). finish words (scope_of state inside bound) (reverse frames) (here words after) (word_at words i).place u) (forall_value (word_at words i).place (word_at words (i + 1)).place (here words (i + 2)) (scope_of state inside bound) draft)
+    forall_here = at_list_here after sees
+        ∙ ap (λ (m : Meaning). then_from (λ (u : Value). finish words (scope_of state inside bound) (reverse frames) (here words after) (word_at words i).place u) (m (scope_of state inside bound) draft)) universal.means
+
+    pub forall_gives : (at : Place) (v : Value) (later : Draft) → at ≡ (word_at words i).place → forall_value (word_at words i).place (word_at words (i + 1)).place (here words (i + 2)) (scope_of state inside bound) draft ≡ Ok (v, later)
+        → rest_of words state inside missing frames bound i draft ≡ given_to words state inside frames bound after at v later
+    forall_gives at v later place makes = forall_here ∙ ap (then_from (λ (u : Value). finish words (scope_of state inside bound) (reverse frames) (here words after) (word_at words i).place u)) makes
+        ∙ ap (λ (p : Place). given_to words state inside frames bound after p v later) (sym place)
+
+    pub forall_refused : (stopped : Stop) → Refuses stopped (forall_value (word_at words i).place (word_at words (i + 1)).place (here words (i + 2)) (scope_of state inside bound) draft)
+        → Refuses stopped (rest_of words state inside missing frames bound i draft)
+    forall_refused stopped = refuses_same stopped _ _ (λ fault makes. forall_here ∙ ap (then_from (λ (u : Value). finish words (scope_of state inside bound) (reverse frames) (here words after) (word_at words i).place u)) makes)
+
   -- it opens
   pub list_steps : (after : ℕ) (new : List Frame) (later : List Bound) (o : Opened) (s : Step) → SeesList words i after → s ≡ step_for o i after
       → Opens words state inside frames bound new later i after (2 + work_in words frames (i + 1) after) (list_value (word_at words i) (here words (i + 1))) (Ok o)
@@ -135,3 +155,13 @@ module _ (words : List Word) (state : State) (inside : Inside) (missing : Place)
       pub end_less : work_of words popped f.after < work_of words frames i
       unfolding load weight
       end_less = rw (pushed popped frames f was, ends) (omega (arith, weighs f.work))
+
+-- at the beginning all is left to do
+pub at_start : (words : List Word) (state : State) (inside : Inside) (missing : Place) (bound : List Bound) (frames : List Frame) (i : ℕ) (draft : Draft) → frames ≡ []
+    → value missing (scope_of state inside bound) (here words i) draft ≡ rest_of words state inside missing frames bound i draft
+unfolding resume
+at_start words state inside missing bound frames i draft empty = rw empty refl
+
+pub base_at_start : (frames : List Frame) (bound : List Bound) → frames ≡ [] → base_of (reverse frames) bound ≡ bound
+unfolding base_of
+base_at_start frames bound empty = rw empty refl

@@ -1,5 +1,5 @@
 -- Lists that are open while a term is elaborated, and what is left to do for them.
-use Rattle.std.specs.Prelude.{◌≡◌, ℕ, ◌+◌, ◌≤◌, ◌<◌, List, [], ◌∷◌, ◌++◌, length, reverse, take, Bool, false, Result, Ok, Err}
+use Rattle.std.specs.Prelude.{◌≡◌, ℕ, ◌+◌, ◌≤◌, ◌<◌, List, [], ◌∷◌, ◌++◌, length, reverse, take, Bool, true, false, Option, Some, None, Result, Ok, Err}
 use Rattle.smt_text.specs.Word.{Word}
 use Rattle.smt_text.specs.declared.token.Place.{Place}
 use Rattle.term_table.specs.declared.memory.Memory.{Memory}
@@ -12,7 +12,7 @@ use Rattle.smt_names.specs.declared.stop.Stop.{Stop}
 use Rattle.smt_names.specs.declared.syntax_fault.SyntaxFault.{SyntaxFault}
 use Rattle.smt_names.specs.Making.{Making, made, then_from, ◌>>=◌}
 use Rattle.smt_names.specs.Makes.{Refuses}
-use Rattle.smt_names.specs.Names.{State, Scope, named_by}
+use Rattle.smt_names.specs.Names.{State, Scope, Unknown, named, named_by, head_of, is_known}
 use Rattle.smt_forms.specs.Applied.{applied}
 use Rattle.smt_terms.specs.declared.frame.Frame.{Frame}
 use Rattle.smt_terms.specs.declared.frame.Work.{Work}
@@ -230,3 +230,12 @@ abbrev pub OpensForall : List Word → Inside → ℕ → Result Opened Stop →
 OpensForall words inside i (Ok (opened.At j)) = ⊥
 OpensForall words inside i (Ok opened.Universal) = (inside.in_forall ≡ false) × (inside.in_definition ≡ false)
 OpensForall words inside i (Err stop) = (state : State) (bound : List Bound) (paren : Place) (draft : Draft) → Refuses stop (forall_value paren (word_at words (i + 1)).place (here words (i + 2)) (scope_of state inside bound) draft)
+
+-- what a name that is not bound stands for, where it stands for something
+abbrev pub IsHeadOf : State → List ℕ → Option Head → Type 0
+IsHeadOf state name None = named state name ≡ Unknown
+IsHeadOf state name (Some h) = (h ≡ head_of state name) × (is_known (named_by state h) ≡ true)
+
+-- a forall outside foralls and definitions stands at a place
+abbrev pub IsUniversalAt : List Word → Inside → ℕ → Type 0
+IsUniversalAt words inside i = IsUniversal inside (list_value (word_at words i) (here words (i + 1))) (word_at words i).place (word_at words (i + 1)).place (here words (i + 2))

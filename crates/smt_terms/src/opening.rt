@@ -4,7 +4,7 @@ ghost use Rattle.smt_names.specs.Names.{State, bound_as};
 ghost use Rattle.smt_terms.specs.declared.frame.Inside.{Inside};
 ghost use Rattle.smt_terms.specs.Terms.{form_of, form_value, let_value, annotated_value, forall_value, unbound_value, list_value};
 ghost use Rattle.smt_terms.specs.Cursor.{word_at, here, SeesList, SeesToken};
-ghost use Rattle.smt_terms.specs.Machine.{Opens, OpensForall, work_in};
+ghost use Rattle.smt_terms.specs.Machine.{IsHeadOf, Opens, OpensForall, work_in};
 
 use crate::checks::{check_attributes, check_bindings, check_exactly};
 use crate::cursor::{Seen, kind_at, look, place_at, text_at};
@@ -96,6 +96,18 @@ fn open_annotated(
     }
 }
 
+/// What a name stands for, where it stands for something.
+fn known_head(state: &SessionState, name: &[u8]) -> Option<Head>
+    ensures { IsHeadOf state.now name.now result }
+{
+    match state.head(name) {
+        Head::Unknown => None,
+        Head::Core(connective) => Some(Head::Core(connective)),
+        Head::Function(n) => Some(Head::Function(n)),
+        Head::Definition(n) => Some(Head::Definition(n)),
+    }
+}
+
 /// An application begins: its head is looked up, and its arguments are under way.
 fn open_application(
     alloc: Global,
@@ -107,29 +119,29 @@ fn open_application(
     after: u32,
 ) -> Result<Opened, Stop>
     requires { SeesToken tree.now (i + 1) }
-    ensures { (inside : Inside) → Opens tree.now state.now inside frames.old.items bound.now frames.new.items bound.now i after (3 + work_in tree.now frames.old.items (i + 2) after) (unbound_value (word_at tree.now i).place (word_at tree.now (i + 1)) (here tree.now (i + 2)) (bound_as bound.now (word_at tree.now (i + 1)).text)) result }
+    ensures { (inside : Inside) → Opens tree.now state.now inside frames.old.items bound.now frames.new.items bound.now i after (3 + work_in tree.now frames.old.items (i + 2) after) (form_value (word_at tree.now i).place (word_at tree.now (i + 1)) (here tree.now (i + 2)) Form.Application) result }
 {
     let _len = tree.len();
     let head = place_at(tree, i + 1);
     let name = text_at(tree, i + 1);
-    if bound.find(name).is_some() {
-        return Err(Stop::of_name(alloc, Refusal::WrongArity, head, name));
-    }
-    match state.head(name) {
-        Head::Unknown => Err(Stop::of_name(alloc, Refusal::UnknownName, head, name)),
-        called => {
-            frames.push(Frame {
-                paren: place_at(tree, i),
-                head,
-                after,
-                work: Work::Apply {
-                    called: i + 1,
-                    head: called,
-                    args: Vec::new(alloc),
-                },
-            })?;
-            Ok(Opened::At(i + 2))
-        }
+    match bound.find(name) {
+        Some(_) => Err(Stop::of_name(alloc, Refusal::WrongArity, head, name)),
+        None => match known_head(state, name) {
+            None => Err(Stop::of_name(alloc, Refusal::UnknownName, head, name)),
+            Some(called) => {
+                frames.push(Frame {
+                    paren: place_at(tree, i),
+                    head,
+                    after,
+                    work: Work::Apply {
+                        called: i + 1,
+                        head: called,
+                        args: Vec::new(alloc),
+                    },
+                })?;
+                Ok(Opened::At(i + 2))
+            }
+        },
     }
 }
 

@@ -48,7 +48,7 @@ fn value_of_list(
 }
 
 /// The step that goes on so.
-fn step_to(next: Next) -> Step
+pub(crate) fn step_to(next: Next) -> Step
     ensures { result ≡ step_of next }
 {
     match next {

@@ -25,4 +25,5 @@ returns-in-Err-check_bindings c state inside =
       (let_refused_bindings c.in-Err-check_bindings.stop c.place_at-head.result parts scope c.in-Ok.ensures c.in-Err-check_bindings.ensures)
 
 pub returns-in-Ok-enter_binding : goal.returns-in-Ok-enter_binding
-returns-in-Ok-enter_binding c state inside = ?
+returns-in-Ok-enter_binding c state inside = opens_let c.args.tree.now c.args.i c.args.after state inside c.args.frames.now.items c.enter_binding.new.frames.items c.args.bound.now c.place_at.result c.place_at-head.result c.place_at.ensures c.place_at-head.ensures
+    c.in-Ok-check_bindings.body c.in-Ok-enter_binding.at c.enter_binding.new.bound c.new-none.result.items c.new-none.ensures.items c.in-Ok.ensures c.in-Ok-check_bindings.ensures c.in-Ok-enter_binding.ensures

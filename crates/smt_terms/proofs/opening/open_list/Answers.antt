@@ -1,4 +1,5 @@
-use Rattle.std.proofs.Common.{◌≡◌, ◌+◌, sym, ap, ◌∙◌}
+use Rattle.std.proofs.Common.{◌≡◌, ◌+◌, sym, ap, ◌∙◌, ℕ, arith}
+use Rattle.smt_terms.specs.Meant.{Token}
 use Rattle.smt_names.specs.declared.refusal.Refusal.TheVariants as refusal
 use Rattle.smt_names.specs.Names.{is_symbol}
 use Rattle.smt_terms.specs.Cursor.{word_at, here}
@@ -21,4 +22,5 @@ returns-else-is_symbol c draft = refuses_at c.at-else-is_symbol.result refusal.B
       (ap is_symbol (sym c.kind_at.ensures) ∙ sym c.is_symbol.ensures ∙ c.if-is_symbol.false))
 
 pub returns-then-is_symbol : goal.returns-then-is_symbol
-returns-then-is_symbol c = ?
+returns-then-is_symbol c = opens_symbol c.args.tree.now c.args.state.now c.args.inside c.args.frames.now.items c.args.bound.now c.open_form.new.frames.items c.open_form.new.bound c.args.i c.args.after c.open_form.result
+    (c.in-Token.ensures.is ∙ ap (λ (n : ℕ). Token (word_at c.args.tree.now (c.args.i + 1)) (here c.args.tree.now n)) (omega arith)) (ap is_symbol (sym c.kind_at.ensures) ∙ sym c.is_symbol.ensures ∙ c.if-is_symbol.true) c.open_form.ensures
