@@ -8,6 +8,7 @@ use Rattle.smt_names.specs.declared.value.Value.{Value}
 use Rattle.smt_names.specs.declared.value.Value.TheVariants.{Term, Formula}
 use Rattle.smt_names.specs.declared.connective.Connective.{Connective}
 use Rattle.smt_names.specs.declared.connective.Connective.TheVariants as core
+use Rattle.smt_forms.specs.declared.crossed.Crossed.{Crossed}
 use Rattle.smt_names.specs.Value.{row_of, self, other, complement, has_complement, swapped}
 use Rattle.smt_names.specs.Making.{Making, made, ◌>>=◌, bad_form, row, node, node_if}
 
@@ -58,19 +59,13 @@ refuted (part ∷ next ∷ parts) = option_map (λ ns. self part ∷ ns) (refute
 abbrev pub implies_form : Place → List Value → Making Value
 implies_form at parts = both at (Or (implied parts)) (option_map And (refuted parts))
 
--- the four nodes on which xor and = of two formulas stand
-pub record Crossed : Type 0 where
-  pub m : ℕ
-  pub n : ℕ
-  pub p : ℕ
-  pub q : ℕ
-
 abbrev pub or_of : Place → ℕ → ℕ → Making ℕ
 or_of at a b = node at (Or (a ∷ b ∷ []))
 
 abbrev pub and_of : ℕ → ℕ → ShapeNode
 and_of a b = And (a ∷ b ∷ [])
 
+-- the four nodes on which xor and = of two formulas stand
 abbrev pub crossed : Place → Value → Value → Making Crossed
 crossed at a b = do
   m ← or_of at (self a) (self b)
@@ -114,13 +109,17 @@ neighbours at a (b ∷ parts) = do
   others ← neighbours at b parts
   made (first ∷ others)
 
+-- each part equals the next
+abbrev pub all_equal : Place → Value → List Value → Making Value
+all_equal at a parts = do
+  equations ← neighbours at a parts
+  and_form at equations
+
 abbrev pub equal_form : Place → List Value → Making Value
 equal_form at [] = bad_form at
 equal_form at (a ∷ []) = bad_form at
 equal_form at (a ∷ b ∷ []) = equal_of_two at a b
-equal_form at (a ∷ b ∷ c ∷ parts) = do
-  equations ← neighbours at a (b ∷ c ∷ parts)
-  and_form at equations
+equal_form at (a ∷ b ∷ c ∷ parts) = all_equal at a (b ∷ c ∷ parts)
 
 abbrev pub distinct_of_two : Place → Value → Value → Making Value
 distinct_of_two at a b = do
@@ -147,14 +146,22 @@ distinct_pairs at (a ∷ parts) = do
 abbrev pub never : Place → Option (List ℕ) → Making Value
 never at against = both at (Or []) (option_map (λ _. And []) against)
 
+-- each part differs from each that follows
+abbrev pub all_distinct : Place → List Value → Making Value
+all_distinct at parts = do
+  differences ← distinct_pairs at parts
+  and_form at differences
+
+-- three or more, by the first of them
+abbrev pub distinct_of_many : Place → Value → List Value → Making Value
+distinct_of_many at (Formula a a') parts = never at (complements parts)
+distinct_of_many at (Term a sort) parts = all_distinct at parts
+
 abbrev pub distinct_form : Place → List Value → Making Value
 distinct_form at [] = bad_form at
 distinct_form at (a ∷ []) = bad_form at
 distinct_form at (a ∷ b ∷ []) = distinct_of_two at a b
-distinct_form at (Formula a a' ∷ b ∷ c ∷ parts) = never at (complements (Formula a a' ∷ b ∷ c ∷ parts))
-distinct_form at (Term a sort ∷ b ∷ c ∷ parts) = do
-  differences ← distinct_pairs at (Term a sort ∷ b ∷ c ∷ parts)
-  and_form at differences
+distinct_form at (a ∷ b ∷ c ∷ parts) = distinct_of_many at a (a ∷ b ∷ c ∷ parts)
 
 -- the complement of an ite, where both branches have one
 abbrev pub ite_complement : Place → Value → Option (List ℕ) → Making (Option ShapeNode)

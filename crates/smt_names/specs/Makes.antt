@@ -1,5 +1,6 @@
 -- What a call answers that makes a part of a shape.
-use Rattle.std.specs.Prelude.{◌≡◌, Result, Ok, Err}
+use Rattle.std.specs.Prelude.{◌≡◌, List, Vec, Result, Ok, Err}
+use Rattle.std.specs.declared.alloc.Global.{Global}
 use Rattle.formula_shape.specs.Draft.{Draft}
 use Rattle.smt_names.specs.declared.syntax_fault.SyntaxFault.{SyntaxFault}
 use Rattle.smt_names.specs.declared.stop.Stop.{Stop}
@@ -20,6 +21,11 @@ Refuses (stop.Refused fault) made = made ≡ Err fault
 abbrev pub Makes : {A : Type 0} → Result A Stop → Draft → Draft → Making A → Type 0
 Makes (Ok value) old new making = making old ≡ Ok (value, new)
 Makes (Err stopped) old new making = Refuses stopped (making old)
+
+-- a call that makes a list
+abbrev pub MakesItems : {A : Type 0} → Result (Vec A Global) Stop → Draft → Draft → Making (List A) → Type 0
+MakesItems (Ok made) old new making = making old ≡ Ok (made.items, new)
+MakesItems (Err stopped) old new making = Refuses stopped (making old)
 
 -- a call that puts nothing
 abbrev pub Checks : {A : Type 0} → Result A Stop → Making A → Type 0

@@ -253,13 +253,22 @@ signature_of f = record { arguments = f.arguments; sort = f.sort }
 abbrev pub with_sort : List ℕ → State → State
 with_sort name state = record state { sorts = state.sorts ++ name ∷ [] }
 
+-- a function with these sorts, under its name
+abbrev pub declared_as : List ℕ → Signature → Declared
+declared_as name signature = record { name = name; arguments = signature.arguments; sort = signature.sort }
+
 -- a function more
 abbrev pub with_function : List ℕ → Signature → State → State
-with_function name signature state = record state { functions = state.functions ++ record { name = name; arguments = signature.arguments; sort = signature.sort } ∷ [] }
+with_function name signature state = record state { functions = state.functions ++ declared_as name signature ∷ [] }
 
 -- a definition under its name
 abbrev pub defined_as : List ℕ → definition.Definition → Defined
 defined_as name d = record { name = name; parameters = d.parameters; sort = d.sort; rows = d.draft.rows; nodes = d.draft.nodes; value = d.value }
+
+-- the definition that stands there under some name, or none
+abbrev pub DefinedAt : Option Defined → Option definition.Definition → Type 0
+DefinedAt there None = there ≡ None
+DefinedAt there (Some d) = (name : List ℕ) × (there ≡ Some (defined_as name d))
 
 -- a definition more
 abbrev pub with_definition : List ℕ → definition.Definition → State → State

@@ -1,6 +1,6 @@
 //! What stands between two commands.
-ghost use Rattle.std.specs.Prelude.{◌≡◌, ◌≤◌, ◌+◌, ◌++◌, ◌∷◌, [], length, slice_get, get_or, option_copied, option_map, None, OnOk, OnErr};
-ghost use Rattle.smt_names.specs.Names.{Declared, at_start, cleared, level_of, pushed, popped, head_of, named_by, is_known, is_head, sort_number, word_of, new_function_name, new_sort_name, sort_of_token, other_sort_of_token, signature_of, with_sort, with_function, with_definition};
+ghost use Rattle.std.specs.Prelude.{◌≡◌, ◌≤◌, ◌+◌, ◌++◌, ◌∷◌, [], length, slice_get, get_or, ◌<◌, ◌^◌, option_copied, option_map, None, IfSome, OnOk, OnErr};
+ghost use Rattle.smt_names.specs.Names.{Declared, at_start, cleared, level_of, pushed, popped, head_of, named_by, is_known, is_head, DefinedAt, sort_number, word_of, new_function_name, new_sort_name, sort_of_token, other_sort_of_token, signature_of, with_sort, with_function, with_definition};
 ghost use Rattle.smt_names.specs.Makes.{Checks};
 
 use crate::connective::Connective;
@@ -118,11 +118,22 @@ impl SessionState {
 
     /// The sorts of the function at a place.
     pub fn signature(&self, index: u32) -> Option<&Signature>
-        ensures { option_copied result ≡ option_map signature_of (slice_get self.now.functions index) }
+        ensures sorts { option_copied result ≡ option_map signature_of (slice_get self.now.functions index) }
+        ensures fits { IfSome result (λ _. index + 2 < 2 ^ 32) }
     {
         match self.functions.get_index(index as usize) {
             None => None,
             Some((_, signature)) => Some(signature),
+        }
+    }
+
+    /// The definition at a place.
+    pub fn definition(&self, index: u32) -> Option<&Definition>
+        ensures { DefinedAt (slice_get self.now.definitions index) (option_copied result) }
+    {
+        match self.definitions.get_index(index as usize) {
+            None => None,
+            Some((_, definition)) => Some(definition),
         }
     }
 
