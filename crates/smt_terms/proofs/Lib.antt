@@ -1,2 +1,5 @@
 pub mod CursorLemmas
+pub mod CheckLemmas
 pub mod Machines
+pub mod Openings
+pub mod Walks

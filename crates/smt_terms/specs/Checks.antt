@@ -9,10 +9,10 @@ use Rattle.smt_names.specs.Makes.{Refuses}
 use Rattle.smt_terms.specs.Meant.{some_bindings}
 use Rattle.smt_terms.specs.Cursor.{word_at, here, SeesList}
 
--- a token is found that is the word which is made
-abbrev pub Finds : List Word → Result ℕ Stop → Making Word → Type 0
-Finds words (Ok i) making = (draft : Draft) → making draft ≡ Ok (word_at words i, draft)
-Finds words (Err stop) making = (draft : Draft) → Refuses stop (making draft)
+-- the check holds, and this is what is made
+abbrev pub ChecksAs : {A : Type 0} → Result (Unit {0}) Stop → A → Making A → Type 0
+ChecksAs (Ok done) found making = (draft : Draft) → making draft ≡ Ok (found, draft)
+ChecksAs (Err stop) found making = (draft : Draft) → Refuses stop (making draft)
 
 -- a list of bindings comes next, and this is the place behind it
 abbrev pub HasBindings : List Word → ℕ → Place → Result ℕ Stop → Type 0

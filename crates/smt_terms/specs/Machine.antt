@@ -1,5 +1,5 @@
 -- Lists that are open while a term is elaborated, and what is left to do for them.
-use Rattle.std.specs.Prelude.{◌≡◌, ℕ, ◌+◌, ◌≤◌, ◌<◌, List, [], ◌∷◌, ◌++◌, length, reverse, take, Result, Ok, Err}
+use Rattle.std.specs.Prelude.{◌≡◌, ℕ, ◌+◌, ◌≤◌, ◌<◌, List, [], ◌∷◌, ◌++◌, length, reverse, take, Bool, true, false, Option, Some, None, Result, Ok, Err}
 use Rattle.smt_text.specs.Word.{Word}
 use Rattle.smt_text.specs.declared.token.Place.{Place}
 use Rattle.term_table.specs.declared.memory.Memory.{Memory}
@@ -12,7 +12,7 @@ use Rattle.smt_names.specs.declared.stop.Stop.{Stop}
 use Rattle.smt_names.specs.declared.syntax_fault.SyntaxFault.{SyntaxFault}
 use Rattle.smt_names.specs.Making.{Making, made, then_from, ◌>>=◌}
 use Rattle.smt_names.specs.Makes.{Refuses}
-use Rattle.smt_names.specs.Names.{State, Scope, named_by}
+use Rattle.smt_names.specs.Names.{State, Scope, Unknown, named, named_by, head_of, is_known}
 use Rattle.smt_forms.specs.Applied.{applied}
 use Rattle.smt_terms.specs.declared.frame.Frame.{Frame}
 use Rattle.smt_terms.specs.declared.frame.Work.{Work}
@@ -22,9 +22,15 @@ use Rattle.smt_terms.specs.declared.frame.Next.{Next}
 use Rattle.smt_terms.specs.declared.frame.Next.TheVariants as step
 use Rattle.smt_terms.specs.declared.frame.Given.{Given}
 use Rattle.smt_terms.specs.declared.frame.Given.TheVariants as given
-use Rattle.smt_terms.specs.Meant.{Meant, End, Token, Group}
-use Rattle.smt_terms.specs.Terms.{value, values, bind, bound_values}
-use Rattle.smt_terms.specs.Cursor.{word_at, here}
+use Rattle.smt_terms.specs.declared.frame.Opened.{Opened}
+use Rattle.smt_terms.specs.declared.frame.Opened.TheVariants as opened
+use Rattle.smt_terms.specs.declared.frame.Step.{Step}
+use Rattle.smt_terms.specs.declared.frame.Step.TheVariants as kind
+use Rattle.smt_terms.specs.declared.frame.Walked.{Walked}
+use Rattle.smt_terms.specs.declared.frame.Walked.TheVariants as walked
+use Rattle.smt_terms.specs.Meant.{Meant, Meaning, End, Token, Group}
+use Rattle.smt_terms.specs.Terms.{value, values, bind, bound_values, forall_value, list_value}
+use Rattle.smt_terms.specs.Cursor.{word_at, here, SeesList}
 
 -- the scope of a term where these names are bound
 abbrev pub scope_of : State → Inside → List Bound → Scope
@@ -157,3 +163,79 @@ abbrev pub GivesOn : List Word → List Frame → List Bound → List Frame → 
 GivesOn words frames bound new_frames new_bound after at v (Ok n) =
     (state : State) (inside : Inside) (missing : Place) (draft : Draft) → GoesOn words state inside missing new_frames new_bound draft (base_of (reverse frames) bound) (work_of words frames after) n (given_to words state inside frames bound after at v draft)
 GivesOn words frames bound new_frames new_bound after at v (Err refused) = Unit {0}
+
+-- A list with this meaning is a forall that stands outside foralls and definitions: its place, that of its head, and what stands behind that.
+pub record IsUniversal (inside : Inside) (meaning : Meaning) (paren head : Place) (parts : Meant) : Type 0 where
+  pub no_forall : inside.in_forall ≡ false
+  pub no_definition : inside.in_definition ≡ false
+  pub means : meaning ≡ forall_value paren head parts
+
+-- What a list with this meaning does that begins at a place: it is open and elaboration goes on in it, or it is a forall, or it is refused.
+abbrev pub Opens : List Word → State → Inside → List Frame → List Bound → List Frame → List Bound → (i after most : ℕ) → Meaning → Result Opened Stop → Type 0
+Opens words state inside frames bound new_frames new_bound i after most meaning (Ok (opened.At j)) =
+    (missing : Place) (draft : Draft) → GoesOn words state inside missing new_frames new_bound draft (base_of (reverse frames) bound) most (step.At j)
+      (then_from (λ (v : Value). finish words (scope_of state inside bound) (reverse frames) (here words after) (word_at words i).place v) (meaning (scope_of state inside bound) draft))
+Opens words state inside frames bound new_frames new_bound i after most meaning (Ok opened.Universal) =
+    IsUniversal inside meaning (word_at words i).place (word_at words (i + 1)).place (here words (i + 2)) × (new_frames ≡ frames) × (new_bound ≡ bound)
+Opens words state inside frames bound new_frames new_bound i after most meaning (Err stop) = (draft : Draft) → Refuses stop (meaning (scope_of state inside bound) draft)
+
+-- how much work is left in a list from its parts on, and behind it
+abbrev pub work_in : List Word → List Frame → (parts after : ℕ) → ℕ
+work_in words frames parts after = weight words (here words parts) + weight words (here words after) + load words (reverse frames)
+
+-- What a step does: it goes on with less work, or it stands before a forall outside foralls, or it is refused.
+pub record Before (words : List Word) (inside : Inside) (frames : List Frame) (bound : List Bound) (new_frames : List Frame) (new_bound : List Bound) (i at after : ℕ) : Type 0 where
+  pub same_place : at ≡ i
+  pub same_frames : new_frames ≡ frames
+  pub same_bound : new_bound ≡ bound
+  pub sees : SeesList words at after
+  pub universal : IsUniversal inside (list_value (word_at words at) (here words (at + 1))) (word_at words at).place (word_at words (at + 1)).place (here words (at + 2))
+
+pub record Progress (words : List Word) (state : State) (inside : Inside) (missing : Place) (frames : List Frame) (bound : List Bound) (new_frames : List Frame) (new_bound : List Bound) (draft later : Draft) (i : ℕ) (n : Next) : Type 0 where
+  pub most : ℕ
+  pub less : most < work_of words frames i
+  pub goes : GoesOn words state inside missing new_frames new_bound later (base_of (reverse frames) bound) most n (rest_of words state inside missing frames bound i draft)
+
+abbrev pub Steps : List Word → State → Inside → Place → List Frame → List Bound → List Frame → List Bound → Draft → Draft → ℕ → Result Step Stop → Type 0
+Steps words state inside missing frames bound new_frames new_bound draft later i (Ok (kind.At j)) = Progress words state inside missing frames bound new_frames new_bound draft later i (step.At j)
+Steps words state inside missing frames bound new_frames new_bound draft later i (Ok (kind.Whole v)) = Progress words state inside missing frames bound new_frames new_bound draft later i (step.Whole v)
+Steps words state inside missing frames bound new_frames new_bound draft later i (Ok (kind.Universal at after)) = Before words inside frames bound new_frames new_bound i at after × (later ≡ draft)
+Steps words state inside missing frames bound new_frames new_bound draft later i (Err stop) = Refuses stop (rest_of words state inside missing frames bound i draft)
+
+-- the step that goes on so
+abbrev pub step_of : Next → Step
+step_of (step.At i) = kind.At i
+step_of (step.Whole v) = kind.Whole v
+
+-- the step that opens a list
+abbrev pub step_for : Opened → (at after : ℕ) → Step
+step_for (opened.At i) at after = kind.At i
+step_for opened.Universal at after = kind.Universal at after
+
+-- What going on did: the value of the whole is there, or a forall outside foralls comes next and as much is left to do, or it is refused.
+pub record Stands (words : List Word) (state : State) (inside : Inside) (missing : Place) (frames : List Frame) (bound : List Bound) (new_frames : List Frame) (new_bound : List Bound) (draft later : Draft) (i at after : ℕ) : Type 0 where
+  pub same : rest_of words state inside missing frames bound i draft ≡ rest_of words state inside missing new_frames new_bound at later
+  pub base : base_of (reverse new_frames) new_bound ≡ base_of (reverse frames) bound
+  pub no_more : work_of words new_frames at ≤ work_of words frames i
+  pub sees : SeesList words at after
+  pub universal : IsUniversal inside (list_value (word_at words at) (here words (at + 1))) (word_at words at).place (word_at words (at + 1)).place (here words (at + 2))
+
+abbrev pub Walks : List Word → State → Inside → Place → List Frame → List Bound → List Frame → List Bound → Draft → Draft → ℕ → Result Walked Stop → Type 0
+Walks words state inside missing frames bound new_frames new_bound draft later i (Ok (walked.Whole v)) = (rest_of words state inside missing frames bound i draft ≡ Ok (v, later)) × (new_bound ≡ base_of (reverse frames) bound)
+Walks words state inside missing frames bound new_frames new_bound draft later i (Ok (walked.Universal at after)) = Stands words state inside missing frames bound new_frames new_bound draft later i at after
+Walks words state inside missing frames bound new_frames new_bound draft later i (Err stop) = Refuses stop (rest_of words state inside missing frames bound i draft)
+
+-- what a forall does that begins at a place
+abbrev pub OpensForall : List Word → Inside → ℕ → Result Opened Stop → Type 0
+OpensForall words inside i (Ok (opened.At j)) = ⊥
+OpensForall words inside i (Ok opened.Universal) = (inside.in_forall ≡ false) × (inside.in_definition ≡ false)
+OpensForall words inside i (Err stop) = (state : State) (bound : List Bound) (paren : Place) (draft : Draft) → Refuses stop (forall_value paren (word_at words (i + 1)).place (here words (i + 2)) (scope_of state inside bound) draft)
+
+-- what a name that is not bound stands for, where it stands for something
+abbrev pub IsHeadOf : State → List ℕ → Option Head → Type 0
+IsHeadOf state name None = named state name ≡ Unknown
+IsHeadOf state name (Some h) = (h ≡ head_of state name) × (is_known (named_by state h) ≡ true)
+
+-- a forall outside foralls and definitions stands at a place
+abbrev pub IsUniversalAt : List Word → Inside → ℕ → Type 0
+IsUniversalAt words inside i = IsUniversal inside (list_value (word_at words i) (here words (i + 1))) (word_at words i).place (word_at words (i + 1)).place (here words (i + 2))

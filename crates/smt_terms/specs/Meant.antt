@@ -82,14 +82,19 @@ other_sort state missing trees = do
   want (not (sort == 0)) NotInProfile (first_place missing trees)
   made sort
 
--- The name of a binding, a list of a name, which must be lawful and none of these, and of one tree more.
-abbrev pub binding_name : List (List ℕ) → Word → Meant → Making Word
-binding_name names paren inner = do
-  exactly 2 paren.place inner
-  name ← token_first paren.place inner
+-- a name that may be bound, and is none of these
+abbrev pub new_binding : List (List ℕ) → Place → Meant → Making Word
+new_binding names missing trees = do
+  name ← token_first missing trees
   lawful_name name
   want (not (list_any (bytes_eq name.text) names)) BadForm name.place
   made name
+
+-- the name of a binding, a list of a name, which none of these is, and of one tree more
+abbrev pub binding_name : List (List ℕ) → Word → Meant → Making Word
+binding_name names paren inner = do
+  exactly 2 paren.place inner
+  new_binding names paren.place inner
 
 -- the bindings of a let, a forall or a definition after those of these names: none has a name twice
 abbrev pub bindings_after : List (List ℕ) → Meant → Making (Unit {0})
@@ -99,12 +104,16 @@ bindings_after names (Group paren meaning inner trees) = do
   name ← binding_name names paren inner
   bindings_after (names ++ name.text ∷ []) trees
 
+abbrev pub one_or_more : Place → Meant → Making (Unit {0})
+one_or_more missing trees = do
+  at_least 1 missing trees
+  bindings_after [] trees
+
 -- a list of bindings, of which there is one or more
 abbrev pub some_bindings : Place → Meant → Making Listed
 some_bindings missing trees = do
   listed ← list_first missing trees
-  at_least 1 listed.paren.place listed.inner
-  bindings_after [] listed.inner
+  one_or_more listed.paren.place listed.inner
   made listed
 
 -- the name of a binding too many is refused

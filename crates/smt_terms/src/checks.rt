@@ -4,9 +4,9 @@ ghost use Rattle.std.specs.List.{list_any};
 ghost use Rattle.smt_names.specs.declared.refusal.Refusal.TheVariants.{BadForm};
 ghost use Rattle.smt_names.specs.Makes.{Checks};
 ghost use Rattle.smt_names.specs.Names.{is_wide, word_of};
-ghost use Rattle.smt_terms.specs.Meant.{no_more, at_least, at_most, exactly, bindings_after, binding_name, attributes_after, attributes_of};
+ghost use Rattle.smt_terms.specs.Meant.{no_more, at_least, at_most, exactly, bindings_after, binding_name, new_binding, one_or_more, attributes_after, attributes_of};
 ghost use Rattle.smt_terms.specs.Cursor.{here, word_at};
-ghost use Rattle.smt_terms.specs.Checks.{Finds, HasBindings};
+ghost use Rattle.smt_terms.specs.Checks.{ChecksAs, HasBindings};
 
 use crate::cursor::{Seen, behind_one, behind_some, kind_at, look, place_at, text_at};
 use crate::numbers::is_wide;
@@ -77,26 +77,46 @@ fn is_among(names: &[Name], name: &[u8]) -> bool
     names.iter().any(|n| name == n.as_slice())
 }
 
-/// The token of the name of a binding, whose list begins at a token. It must be lawful and none of these.
-fn check_binding(alloc: Global, tree: &Tree, i: u32, names: &[Name]) -> Result<u32, Stop>
+/// A token comes next that may be the name of a binding: a lawful name that is none of these.
+fn check_binding_name(
+    alloc: Global,
+    tree: &Tree,
+    i: u32,
+    names: &[Name],
+    missing: Place,
+) -> Result<(), Stop>
+    ensures { ChecksAs result (word_at tree.now i) (new_binding names.now missing (here tree.now i)) }
+{
+    let place = place_at(tree, i);
+    match look(tree, i) {
+        Seen::End => Err(Stop::at(alloc, Refusal::BadForm, missing)),
+        Seen::List { .. } => Err(Stop::at(alloc, Refusal::BadForm, place)),
+        Seen::Token => {
+            let name = text_at(tree, i);
+            match check_lawful_name(alloc, kind_at(tree, i), place, name) {
+                Err(stop) => Err(stop),
+                Ok(()) => {
+                    if is_among(names, name) {
+                        Err(Stop::at(alloc, Refusal::BadForm, place))
+                    } else {
+                        Ok(())
+                    }
+                }
+            }
+        }
+    }
+}
+
+/// A binding begins at a parenthesis: a name, which must be lawful and none of these, and one tree more.
+fn check_binding(alloc: Global, tree: &Tree, i: u32, names: &[Name]) -> Result<(), Stop>
     requires { i < length tree.now }
-    ensures { Finds tree.now result (binding_name names.now (word_at tree.now i) (here tree.now (i + 1))) }
+    ensures { ChecksAs result (word_at tree.now (i + 1)) (binding_name names.now (word_at tree.now i) (here tree.now (i + 1))) }
 {
     let _len = tree.len();
     let paren = place_at(tree, i);
-    check_exactly(alloc, tree, i + 1, 2, paren)?;
-    match look(tree, i + 1) {
-        Seen::End => Err(Stop::at(alloc, Refusal::BadForm, paren)),
-        Seen::List { .. } => Err(Stop::at(alloc, Refusal::BadForm, place_at(tree, i + 1))),
-        Seen::Token => {
-            let place = place_at(tree, i + 1);
-            let name = text_at(tree, i + 1);
-            check_lawful_name(alloc, kind_at(tree, i + 1), place, name)?;
-            if is_among(names, name) {
-                return Err(Stop::at(alloc, Refusal::BadForm, place));
-            }
-            Ok(i + 1)
-        }
+    match check_exactly(alloc, tree, i + 1, 2, paren) {
+        Err(stop) => Err(stop),
+        Ok(()) => check_binding_name(alloc, tree, i + 1, names, paren),
     }
 }
 
@@ -111,12 +131,22 @@ pub fn check_names(alloc: Global, tree: &Tree, i: u32) -> Result<(), Stop>
             Seen::End => return Ok(()),
             Seen::Token => return Err(Stop::at(alloc, Refusal::BadForm, place_at(tree, at))),
             Seen::List { after } => {
-                let name = check_binding(alloc, tree, at, names.as_slice())?;
-                names.push(Name::from_slice(alloc, text_at(tree, name))?)?;
+                match check_binding(alloc, tree, at, names.as_slice()) {
+                    Err(stop) => return Err(stop),
+                    Ok(()) => names.push(Name::from_slice(alloc, text_at(tree, at + 1))?)?,
+                }
                 at = after;
             }
         }
     }
+}
+
+/// One binding or more come next, to the end of the list.
+fn check_some_bindings(alloc: Global, tree: &Tree, i: u32, missing: Place) -> Result<(), Stop>
+    ensures { Checks result (one_or_more missing (here tree.now i)) }
+{
+    check_at_least(alloc, tree, i, 1, missing)?;
+    check_names(alloc, tree, i)
 }
 
 /// A list of one binding or more comes next. The place behind it.
@@ -127,18 +157,26 @@ pub fn check_bindings(alloc: Global, tree: &Tree, i: u32, missing: Place) -> Res
         Seen::End => Err(Stop::at(alloc, Refusal::BadForm, missing)),
         Seen::Token => Err(Stop::at(alloc, Refusal::BadForm, place_at(tree, i))),
         Seen::List { after } => {
-            check_at_least(alloc, tree, i + 1, 1, place_at(tree, i))?;
-            check_names(alloc, tree, i + 1)?;
-            Ok(after)
+            match check_some_bindings(alloc, tree, i + 1, place_at(tree, i)) {
+                Err(stop) => Err(stop),
+                Ok(()) => Ok(after),
+            }
         }
     }
+}
+
+/// Whether a token is a numeral of more than 128 bits.
+fn is_wide_at(tree: &Tree, i: u32) -> bool
+    ensures { result ≡ is_wide (word_at tree.now i) }
+{
+    is_wide(kind_at(tree, i), text_at(tree, i))
 }
 
 /// Whether a token may be the value of a keyword.
 fn may_be_value(valued: bool, tree: &Tree, i: u32) -> bool
     ensures { result ≡ (valued && not (is_wide (word_at tree.now i))) }
 {
-    valued && !is_wide(kind_at(tree, i), text_at(tree, i))
+    valued && !is_wide_at(tree, i)
 }
 
 /// Attributes come next, to the end of the list.
@@ -176,6 +214,8 @@ fn check_attributes_after(alloc: Global, tree: &Tree, i: u32) -> Result<(), Stop
 pub fn check_attributes(alloc: Global, tree: &Tree, i: u32, head: Place) -> Result<(), Stop>
     ensures { Checks result (attributes_of head (here tree.now i)) }
 {
-    check_at_least(alloc, tree, i, 2, head)?;
-    check_attributes_after(alloc, tree, behind_one(tree, i))
+    match check_at_least(alloc, tree, i, 2, head) {
+        Err(stop) => Err(stop),
+        Ok(()) => check_attributes_after(alloc, tree, behind_one(tree, i)),
+    }
 }

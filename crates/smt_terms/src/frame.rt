@@ -67,3 +67,32 @@ pub struct Round {
     pub head: Place,
     pub after: u32,
 }
+
+/// What a list does that begins.
+#[derive(Clone, Copy, Debug, PartialEq, Eq)]
+pub enum Opened {
+    /// It is open, and elaboration goes on at a place.
+    At(u32),
+    /// It is a forall outside foralls and definitions.
+    Universal,
+}
+
+/// What a step of elaboration did.
+#[derive(Clone, Copy, Debug, PartialEq, Eq)]
+pub enum Step {
+    /// It goes on at a place.
+    At(u32),
+    /// The value of the whole is there.
+    Whole(Value),
+    /// It stands before a forall at a place outside foralls and definitions, whose list ends before another place.
+    Universal { at: u32, after: u32 },
+}
+
+/// Where going on ended.
+#[derive(Clone, Copy, Debug, PartialEq, Eq)]
+pub enum Walked {
+    /// The value of the whole is there.
+    Whole(Value),
+    /// A forall outside foralls and definitions stands at a place, and its list ends before another place.
+    Universal { at: u32, after: u32 },
+}

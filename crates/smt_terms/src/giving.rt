@@ -21,7 +21,7 @@ fn bind_all(bound: &mut BoundNames, more: &[Bound]) -> Result<(), Memory>
 }
 
 /// A `let` goes on with the binding that comes next, or else with its body.
-fn enter_binding(
+pub(crate) fn enter_binding(
     tree: &Tree,
     frames: &mut Vec<Frame>,
     bound: &mut BoundNames,

@@ -4,11 +4,16 @@
 mod applying;
 mod checks;
 mod cursor;
+mod elaborate;
+mod foralls;
 mod form;
 mod frame;
 mod giving;
 mod numbers;
+mod opening;
 mod tokens;
+mod walking;
 
 pub use cursor::{Binding, Seen, behind_one, behind_some, binding_at, kind_at, look, place_at, text_at};
+pub use elaborate::elaborate_term;
 pub use frame::Inside;

@@ -1,0 +1,323 @@
+-- Commands: what each one answers, and the state after it.
+use Rattle.std.specs.Prelude.{◌≡◌, ℕ, ◌+◌, Bool, true, false, cond, not, ◌&&◌, ◌||◌, nat_le, ◌==◌, if◌then◌else◌, List, [], ◌∷◌, ◌++◌, map, length, Option, Some, None, Result, Ok, Err, bytes_eq, codes}
+use Rattle.std.specs.List.{list_any}
+use Rattle.em_outside.specs.declared.limits.Limits.{Limits}
+use Rattle.smt_text.specs.Word.{Word}
+use Rattle.smt_text.specs.Trees.{tree_of}
+use Rattle.smt_text.specs.declared.token.Place.{Place}
+use Rattle.formula_shape.specs.Draft.{Draft, empty_draft, finished}
+use Rattle.smt_names.specs.declared.value.Value.{Value}
+use Rattle.smt_names.specs.declared.bound.Bound.{Bound}
+use Rattle.smt_names.specs.declared.syntax_fault.SyntaxFault.{SyntaxFault}
+use Rattle.smt_names.specs.declared.refusal.Refusal.TheVariants as refusal
+use Rattle.smt_names.specs.declared.signature.Signature.{Signature}
+use Rattle.smt_names.specs.declared.stands.Stands.{Stands}
+use Rattle.smt_names.specs.declared.stands.Stands.TheVariants.{Given, Variable}
+use Rattle.smt_names.specs.Value.{sort_of, self}
+use Rattle.smt_names.specs.Making.{Making, made, ◌>>=◌, ◌>>◌, want, bad_form, not_in_profile}
+use Rattle.smt_names.specs.Names.{State, Scope, with_sort, with_function, is_symbol, is_keyword, is_numeral, is_wide, number_of, new_function_name, new_sort_name, at_start, cleared, pushed, popped}
+use Rattle.smt_terms.specs.Meant.{Meant, End, Token, Group, from, first_place, no_more, at_most, at_least, exactly, token_first, list_first, sort_first, other_sort, bindings_after, no_binding}
+use Rattle.smt_terms.specs.Terms.{value, truth, meant, variables_from}
+use Rattle.smt_commands.specs.declared.command.Command.{Command}
+use Rattle.smt_commands.specs.declared.command.Command.TheVariants.{Silent, Unsupported, Assert, Push, Pop, CheckSat, GetInfo, Reset, ResetAssertions, Exit}
+use Rattle.smt_commands.specs.declared.named.Named.{Named}
+use Rattle.smt_commands.specs.declared.named.Named.TheVariants as named
+use Rattle.smt_commands.specs.declared.info.Info.{Info}
+use Rattle.smt_commands.specs.declared.named.Named.{Named}
+use Rattle.smt_commands.specs.declared.named.Named.TheVariants as named
+use Rattle.smt_commands.specs.declared.info.Info.TheVariants as info
+
+-- what a command answers, with the state after it
+pub record Answer : Type 0 where
+  pub command : Command
+  pub state : State
+
+-- the command changes nothing
+abbrev pub answer : State → Command → Making Answer
+answer state command = made (record { command = command; state = state })
+
+abbrev pub silent : State → Making Answer
+silent state = answer state Silent
+
+-- Parts of commands.
+-- a value of an option or an information: a token that is no keyword, or a list; it may be missing
+abbrev pub plain_value : Meant → Making (Unit {0})
+plain_value End = made tt
+plain_value (Token word trees) = want (not (is_keyword word.kind || is_wide word)) refusal.BadForm word.place
+plain_value (Group paren meaning inner trees) = made tt
+
+abbrev pub keyword_first : Place → Meant → Making Word
+keyword_first head parts = do
+  key ← token_first head parts
+  want (is_keyword key.kind) refusal.BadForm key.place
+  made key
+
+abbrev pub symbol_first : Place → Meant → Making Word
+symbol_first head parts = do
+  word ← token_first head parts
+  want (is_symbol word.kind) refusal.BadForm word.place
+  made word
+
+-- a numeral of at most 128 bits
+abbrev pub numeral_first : Place → Meant → Making ℕ
+numeral_first head parts = do
+  word ← token_first head parts
+  want (is_numeral word.kind && not (is_wide word)) refusal.BadForm word.place
+  made (number_of word)
+
+-- Commands.
+-- (set-logic s)
+abbrev pub set_logic : State → Place → Meant → Making Answer
+set_logic state head parts = do
+  exactly 1 head parts
+  symbol_first head parts
+  silent state
+
+-- what :print-success is set to
+abbrev pub set_success : State → Word → Making Answer
+set_success state v =
+  if bytes_eq v.text (codes "true") then silent (record state { prints_success = true }) else
+  if bytes_eq v.text (codes "false") then silent (record state { prints_success = false }) else bad_form v.place
+
+-- (set-option :print-success v)
+abbrev pub set_print_success : State → Place → Meant → Making Answer
+set_print_success state head parts = do
+  v ← symbol_first head parts
+  set_success state v
+
+-- an option that is not supported
+abbrev pub set_other : State → Meant → Making Answer
+set_other state parts = do
+  plain_value parts
+  answer state Unsupported
+
+-- (set-option :k v)
+abbrev pub set_option : State → Place → Meant → Making Answer
+set_option state head parts = do
+  at_least 1 head parts
+  at_most 2 parts
+  key ← keyword_first head parts
+  if bytes_eq key.text (codes ":print-success") then set_print_success state head (from 1 parts) else set_other state (from 1 parts)
+
+-- (set-info :k v)
+abbrev pub set_info : State → Place → Meant → Making Answer
+set_info state head parts = do
+  at_least 1 head parts
+  at_most 2 parts
+  keyword_first head parts
+  plain_value (from 1 parts)
+  silent state
+
+-- (declare-sort s n)
+abbrev pub declare_sort : State → Place → Meant → Making Answer
+declare_sort state head parts = do
+  exactly 2 head parts
+  name ← token_first head parts
+  new_sort_name state name
+  n ← numeral_first head (from 1 parts)
+  want (n == 0) refusal.NotInProfile (first_place head (from 1 parts))
+  silent (with_sort name.text state)
+
+-- sorts other than Bool, to the end of a list
+abbrev pub other_sorts : State → Place → Meant → Making (List ℕ)
+other_sorts state paren End = made []
+other_sorts state paren (Token word trees) = do
+  sort ← other_sort state paren (Token word trees)
+  sorts ← other_sorts state paren trees
+  made (sort ∷ sorts)
+other_sorts state paren (Group p meaning inner trees) = do
+  sort ← other_sort state paren (Group p meaning inner trees)
+  sorts ← other_sorts state paren trees
+  made (sort ∷ sorts)
+
+abbrev pub signature : List ℕ → ℕ → Signature
+signature arguments sort = record { arguments = arguments; sort = sort }
+
+-- (declare-fun s (S1 .. Sn) S)
+abbrev pub declare_fun : State → Place → Meant → Making Answer
+declare_fun state head parts = do
+  exactly 3 head parts
+  name ← token_first head parts
+  new_function_name state name
+  listed ← list_first head (from 1 parts)
+  no_more refusal.TooManyArguments (from 255 listed.inner)
+  arguments ← other_sorts state listed.paren.place listed.inner
+  sort ← sort_first state head (from 2 parts)
+  silent (with_function name.text (signature arguments sort) state)
+
+-- (declare-const s S)
+abbrev pub declare_const : State → Place → Meant → Making Answer
+declare_const state head parts = do
+  exactly 2 head parts
+  name ← token_first head parts
+  new_function_name state name
+  sort ← sort_first state head (from 1 parts)
+  silent (with_function name.text (signature [] sort) state)
+
+-- the sorts of variables
+abbrev pub sort_of_bound : Stands → ℕ
+sort_of_bound (Given v) = sort_of v
+sort_of_bound (Variable index sort) = sort
+
+abbrev pub sorts_of : List Bound → List ℕ
+sorts_of bound = map (λ b. sort_of_bound b.stands) bound
+
+abbrev pub defined : State → List ℕ → List Bound → ℕ → Value → Making Answer
+defined state name parameters sort v draft = silent (record state { definitions = state.definitions
+  ++ record { name = name; parameters = sorts_of parameters; sort = sort; rows = draft.rows; nodes = draft.nodes; value = v } ∷ [] }) draft
+
+-- inside a definition of these parameters
+abbrev pub inside_definition : State → List Bound → Scope
+inside_definition state parameters = record { state = state; bound = parameters; in_forall = false; in_definition = true }
+
+-- (define-fun s ((x1 S1) ..) S t)
+abbrev pub define_fun : State → Place → Meant → Making Answer
+define_fun state head parts = do
+  exactly 4 head parts
+  name ← token_first head parts
+  new_function_name state name
+  listed ← list_first head (from 1 parts)
+  bindings_after [] listed.inner
+  no_binding refusal.TooManyArguments (from 255 listed.inner)
+  parameters ← variables_from state 0 listed.inner
+  sort ← sort_first state head (from 2 parts)
+  v ← value head (inside_definition state parameters) (from 3 parts)
+  want (sort_of v == sort) refusal.WrongSort (first_place head (from 3 parts))
+  defined state name.text parameters sort v
+
+abbrev pub asserted : State → Value → Making Answer
+asserted state v draft = answer state (Assert (finished draft (self v))) draft
+
+-- outside foralls and definitions
+abbrev pub outside : State → Scope
+outside state = record { state = state; bound = []; in_forall = false; in_definition = false }
+
+-- (assert t)
+abbrev pub assert_truth : State → Place → Meant → Making Answer
+assert_truth state head parts = do
+  exactly 1 head parts
+  v ← truth head (outside state) parts
+  asserted state v
+
+-- how many levels are asked for, 1 where no number stands
+abbrev pub levels_asked : Place → Meant → Making ℕ
+levels_asked head End = made 1
+levels_asked head (Token word trees) = numeral_first head (Token word trees)
+levels_asked head (Group paren meaning inner trees) = bad_form paren.place
+
+-- (push n)
+abbrev pub push_levels : State → Place → Meant → Making Answer
+push_levels state head parts = do
+  at_most 1 parts
+  n ← levels_asked head parts
+  want (nat_le (length state.levels + n) state.limits.levels) refusal.LevelsFull (first_place head parts)
+  answer (pushed n state) (Push n)
+
+-- (pop n)
+abbrev pub pop_levels : State → Place → Meant → Making Answer
+pop_levels state head parts = do
+  at_most 1 parts
+  n ← levels_asked head parts
+  want (nat_le n (length state.levels)) refusal.PopTooFar (first_place head parts)
+  answer (popped n state) (Pop n)
+
+abbrev pub info_of : List ℕ → Info
+info_of key =
+  if bytes_eq key (codes ":name") then info.Name else
+  if bytes_eq key (codes ":version") then info.Version else
+  if bytes_eq key (codes ":authors") then info.Authors else
+  if bytes_eq key (codes ":error-behavior") then info.ErrorBehavior else
+  if bytes_eq key (codes ":assertion-stack-levels") then info.Levels else
+  if bytes_eq key (codes ":reason-unknown") then info.ReasonUnknown else info.Other
+
+-- (get-info :k)
+abbrev pub get_info : State → Place → Meant → Making Answer
+get_info state head parts = do
+  exactly 1 head parts
+  key ← keyword_first head parts
+  answer state (GetInfo (info_of key.text))
+
+-- a command without parts
+abbrev pub alone : Command → State → Meant → Making Answer
+alone command state parts = do
+  at_most 0 parts
+  answer state command
+
+-- commands that are answered as not supported, whatever their parts are
+abbrev pub unsupported_names : List (List ℕ)
+unsupported_names = codes "check-sat-assuming" ∷ codes "echo" ∷ codes "get-assertions" ∷ codes "get-assignment" ∷ codes "get-model" ∷ codes "get-option" ∷ codes "get-proof" ∷ codes "get-unsat-assumptions" ∷ codes "get-unsat-core" ∷ codes "get-value" ∷ []
+
+-- commands that are refused
+abbrev pub foreign_names : List (List ℕ)
+foreign_names = codes "declare-datatype" ∷ codes "declare-datatypes" ∷ codes "define-fun-rec" ∷ codes "define-funs-rec" ∷ codes "define-sort" ∷ []
+
+abbrev pub is_in : List (List ℕ) → List ℕ → Bool
+is_in names name = list_any (bytes_eq name) names
+
+-- The names of the commands that are read.
+abbrev pub named_so : List ℕ → Named
+named_so name =
+  if bytes_eq name (codes "set-logic") then named.SetLogic else
+  if bytes_eq name (codes "set-option") then named.SetOption else
+  if bytes_eq name (codes "set-info") then named.SetInfo else
+  if bytes_eq name (codes "declare-sort") then named.DeclareSort else
+  if bytes_eq name (codes "declare-fun") then named.DeclareFun else
+  if bytes_eq name (codes "declare-const") then named.DeclareConst else
+  if bytes_eq name (codes "define-fun") then named.DefineFun else
+  if bytes_eq name (codes "assert") then named.Assert else
+  if bytes_eq name (codes "push") then named.Push else
+  if bytes_eq name (codes "pop") then named.Pop else
+  if bytes_eq name (codes "check-sat") then named.CheckSat else
+  if bytes_eq name (codes "get-info") then named.GetInfo else
+  if bytes_eq name (codes "reset") then named.Reset else
+  if bytes_eq name (codes "reset-assertions") then named.ResetAssertions else
+  if bytes_eq name (codes "exit") then named.Exit else
+  if is_in unsupported_names name then named.Unsupported else
+  if is_in foreign_names name then named.Foreign else named.Unknown
+
+unfoldable pub command_named : List ℕ → Named
+command_named name = named_so name
+
+-- one line for each command
+abbrev pub headed : State → Place → Meant → Named → Making Answer
+headed state head parts named.SetLogic = set_logic state head parts
+headed state head parts named.SetOption = set_option state head parts
+headed state head parts named.SetInfo = set_info state head parts
+headed state head parts named.DeclareSort = declare_sort state head parts
+headed state head parts named.DeclareFun = declare_fun state head parts
+headed state head parts named.DeclareConst = declare_const state head parts
+headed state head parts named.DefineFun = define_fun state head parts
+headed state head parts named.Assert = assert_truth state head parts
+headed state head parts named.Push = push_levels state head parts
+headed state head parts named.Pop = pop_levels state head parts
+headed state head parts named.CheckSat = alone CheckSat state parts
+headed state head parts named.GetInfo = get_info state head parts
+headed state head parts named.Reset = alone Reset (at_start state.limits) parts
+headed state head parts named.ResetAssertions = alone ResetAssertions (cleared state) parts
+headed state head parts named.Exit = alone Exit state parts
+headed state head parts named.Unsupported = answer state Unsupported
+headed state head parts named.Foreign = not_in_profile head
+headed state head parts named.Unknown = bad_form head
+
+-- a command is a list whose first tree is a symbol
+abbrev pub command_of : State → Place → Meant → Making Answer
+command_of state paren End = bad_form paren
+command_of state paren (Group inner meaning parts trees) = bad_form inner.place
+command_of state paren (Token head parts) = cond (is_symbol head.kind) (headed state head.place parts (command_named head.text)) (bad_form head.place)
+
+-- the place where scripts begin
+abbrev pub start : Place
+start = record { line = 1; column = 1 }
+
+abbrev pub command_at : State → Meant → Making Answer
+command_at state (Group paren meaning inner after) = command_of state paren.place inner
+command_at state (Token word after) = bad_form word.place
+command_at state End = bad_form start
+
+abbrev pub without_draft : Result (Answer × Draft) SyntaxFault → Result Answer SyntaxFault
+without_draft (Ok done) = Ok done.0
+without_draft (Err fault) = Err fault
+
+-- What a command, a list of tokens, answers in a state, or its first refusal.
+unfoldable pub elaborate : State → List Word → Result Answer SyntaxFault
+elaborate state words = without_draft (command_at state (meant (tree_of words)) (empty_draft state.limits.terms state.limits.nodes))

@@ -1,0 +1,9 @@
+//! Commands of a script: what each one answers, and the state after it.
+#![tactic(auto)]
+
+mod command;
+mod info;
+mod named;
+
+pub use command::Command;
+pub use info::Info;

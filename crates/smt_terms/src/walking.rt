@@ -1,0 +1,190 @@
+//! Elaborates a term with a stack of its own, up to a forall.
+ghost use Rattle.std.specs.Prelude.{◌≡◌, ◌<◌, ◌+◌, length, reverse, List};
+ghost use Rattle.smt_text.specs.declared.token.Place.{Place};
+ghost use Rattle.formula_shape.specs.Draft.{Draft};
+ghost use Rattle.smt_names.specs.Makes.{Makes};
+ghost use Rattle.smt_terms.specs.Terms.{list_value};
+ghost use Rattle.smt_terms.specs.Cursor.{word_at, here, SeesList, SeesToken};
+ghost use Rattle.smt_terms.specs.Meant.{End};
+ghost use Rattle.smt_terms.specs.declared.frame.Inside.{Inside};
+ghost use Rattle.smt_names.specs.declared.bound.Bound.{Bound};
+ghost use Rattle.smt_terms.specs.Machine.{Steps, Walks, scope_of, goes_by, step_of, step_for};
+
+use crate::applying::put_applied;
+use crate::cursor::{Seen, look, place_at, text_at};
+use crate::frame::{Frame, Inside, Next, Opened, Step, Walked, Work};
+use crate::giving::give;
+use crate::opening::open_list;
+use crate::tokens::put_token;
+use formula_shape::ShapeDraft;
+use smt_names::{Arg, BoundNames, Refusal, SessionState, Stop, Value};
+use smt_text::{Place, Tree};
+use std::alloc::Global;
+
+/// The value of a list that ends, and its place.
+fn value_of_list(
+    alloc: Global,
+    draft: &mut ShapeDraft,
+    state: &SessionState,
+    tree: &Tree,
+    frame: &Frame,
+) -> Result<Value, Stop>
+    ensures { (inside : Inside) (bound : List Bound) → Makes result draft.old draft.new (goes_by tree.now frame.now.work (scope_of state.now inside bound) frame.now End) }
+{
+    match &frame.work {
+        Work::Apply { called, head, args } => put_applied(
+            alloc,
+            draft,
+            state,
+            frame.paren,
+            frame.head,
+            text_at(tree, *called),
+            *head,
+            args.as_slice(),
+        ),
+        Work::Let { name, .. } => Err(Stop::at(alloc, Refusal::BadForm, place_at(tree, *name))),
+        Work::Pass { .. } => Err(Stop::at(alloc, Refusal::BadForm, frame.head)),
+    }
+}
+
+/// The step that goes on so.
+pub(crate) fn step_to(next: Next) -> Step
+    ensures { result ≡ step_of next }
+{
+    match next {
+        Next::At(i) => Step::At(i),
+        Next::Whole(value) => Step::Whole(value),
+    }
+}
+
+/// The step that opens a list.
+fn step_into(opened: Opened, at: u32, after: u32) -> Step
+    ensures { result ≡ step_for opened at after }
+{
+    match opened {
+        Opened::At(i) => Step::At(i),
+        Opened::Universal => Step::Universal { at, after },
+    }
+}
+
+/// The innermost list ends: its value goes to the list round it.
+fn close(
+    alloc: Global,
+    draft: &mut ShapeDraft,
+    state: &SessionState,
+    tree: &Tree,
+    missing: Place,
+    frames: &mut Vec<Frame>,
+    bound: &mut BoundNames,
+    i: u32,
+) -> Result<Step, Stop>
+    requires { here tree.now i ≡ End }
+    ensures { (inside : Inside) → Steps tree.now state.now inside missing frames.old.items bound.old frames.new.items bound.new draft.old draft.new i result }
+{
+    match frames.pop() {
+        None => Err(Stop::at(alloc, Refusal::BadForm, missing)),
+        Some(frame) => match value_of_list(alloc, draft, state, tree, &frame) {
+            Err(stop) => Err(stop),
+            Ok(value) => {
+                let place = frame.paren;
+                match give(alloc, tree, frames, bound, frame.after, Arg { place, value }) {
+                    Err(_) => Err(Stop::Memory),
+                    Ok(next) => Ok(step_to(next)),
+                }
+            }
+        },
+    }
+}
+
+/// A token that is a tree: its value goes to the innermost list.
+fn pass_token(
+    alloc: Global,
+    draft: &mut ShapeDraft,
+    state: &SessionState,
+    tree: &Tree,
+    frames: &mut Vec<Frame>,
+    bound: &mut BoundNames,
+    inside: Inside,
+    i: u32,
+) -> Result<Step, Stop>
+    requires { SeesToken tree.now i }
+    ensures { (missing : Place) → Steps tree.now state.now inside missing frames.old.items bound.old frames.new.items bound.new draft.old draft.new i result }
+{
+    let _len = tree.len();
+    match put_token(alloc, draft, state, tree, bound, inside, i) {
+        Err(stop) => Err(stop),
+        Ok(value) => {
+            let place = place_at(tree, i);
+            match give(alloc, tree, frames, bound, i + 1, Arg { place, value }) {
+                Err(_) => Err(Stop::Memory),
+                Ok(next) => Ok(step_to(next)),
+            }
+        }
+    }
+}
+
+/// A list begins.
+fn enter_list(
+    alloc: Global,
+    state: &SessionState,
+    tree: &Tree,
+    frames: &mut Vec<Frame>,
+    bound: &mut BoundNames,
+    inside: Inside,
+    i: u32,
+    after: u32,
+) -> Result<Step, Stop>
+    requires { SeesList tree.now i after }
+    ensures { (missing : Place) (draft : Draft) → Steps tree.now state.now inside missing frames.old.items bound.old frames.new.items bound.new draft draft i result }
+{
+    match open_list(alloc, state, tree, frames, bound, inside, i, after) {
+        Err(stop) => Err(stop),
+        Ok(opened) => Ok(step_into(opened, i, after)),
+    }
+}
+
+/// One step: a list ends, a token is passed, or a list begins.
+fn step(
+    alloc: Global,
+    draft: &mut ShapeDraft,
+    state: &SessionState,
+    tree: &Tree,
+    missing: Place,
+    frames: &mut Vec<Frame>,
+    bound: &mut BoundNames,
+    inside: Inside,
+    i: u32,
+) -> Result<Step, Stop>
+    ensures { Steps tree.now state.now inside missing frames.old.items bound.old frames.new.items bound.new draft.old draft.new i result }
+{
+    match look(tree, i) {
+        Seen::End => close(alloc, draft, state, tree, missing, frames, bound, i),
+        Seen::Token => pass_token(alloc, draft, state, tree, frames, bound, inside, i),
+        Seen::List { after } => enter_list(alloc, state, tree, frames, bound, inside, i, after),
+    }
+}
+
+/// Goes on up to a forall outside foralls and definitions, or to the value of the whole.
+pub(crate) fn walk(
+    alloc: Global,
+    draft: &mut ShapeDraft,
+    state: &SessionState,
+    tree: &Tree,
+    missing: Place,
+    frames: &mut Vec<Frame>,
+    bound: &mut BoundNames,
+    inside: Inside,
+    from: u32,
+) -> Result<Walked, Stop>
+    ensures { Walks tree.now state.now inside missing frames.old.items bound.old frames.new.items bound.new draft.old draft.new from result }
+{
+    let mut i = from;
+    loop {
+        match step(alloc, draft, state, tree, missing, frames, bound, inside, i) {
+            Err(stop) => return Err(stop),
+            Ok(Step::Whole(value)) => return Ok(Walked::Whole(value)),
+            Ok(Step::Universal { at, after }) => return Ok(Walked::Universal { at, after }),
+            Ok(Step::At(next)) => i = next,
+        }
+    }
+}
