@@ -3,3 +3,5 @@ pub mod WayLemmas
 pub mod NodeLemmas
 pub mod FrontLemmas
 pub mod ForestLemmas
+pub mod InsertLemmas
+pub mod CutLemmas

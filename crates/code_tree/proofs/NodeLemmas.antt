@@ -1,12 +1,12 @@
 -- What calls of a `NodeTable` do.
-use Rattle.std.proofs.Common.{◌≡◌, ℕ, zero, suc, ◌+◌, ◌-◌, ◌<◌, ◌≤◌, ◌^◌, ◌⊎◌, inl, inr, ⊎_elim, List, [], ◌∷◌, ◌++◌, length, map, take, get_or, slice_get, IfSome, Option, Some, None, Contains, refl, sym, ap, ap₂, subst, ◌∙◌, arith, length-append}
+use Rattle.std.proofs.Common.{◌≡◌, ℕ, zero, suc, ◌+◌, ◌-◌, ◌<◌, ◌≤◌, ◌^◌, ◌⊎◌, inl, inr, ⊎_elim, List, [], ◌∷◌, ◌++◌, length, map, take, get_or, slice_get, IfSome, Option, Some, None, Contains, AllPairs, refl, sym, ap, ap₂, subst, ◌∙◌, arith, length-append}
 use Rattle.std.proofs.lemmas.Option.{none-some, same_Some, slice_get_within}
 use Rattle.std.proofs.lemmas.List.{take_all, take-take, take-append-le, map-append, take-map, length-map, length-take-le, get_or_default}
 use Rattle.std.proofs.lemmas.List.Elements.{Contains-get_or}
 use Rattle.pattern_code.specs.declared.code.Instr.{Instr}
-use Rattle.term_table.specs.ListLaws.{slice_get-append_left, slice_get-push, push_cases, slice_get-take, place_from_Contains}
+use Rattle.term_table.specs.ListLaws.{slice_get-append_left, slice_get-push, push_cases, slice_get-take, place_from_Contains, element_at}
 use Rattle.term_table.specs.Questions.{AreAll}
-use Rattle.code_tree.specs.Trees.{Trees, IsRoot, IsNext, Path, here, Way, AreJoined, AreTrees, trees_front, with_node}
+use Rattle.code_tree.specs.Trees.{Trees, IsRoot, IsNext, Path, here, down, Way, AreJoined, AreTrees, trees_front, with_node}
 use Rattle.code_tree.specs.NodesInside.{above_of, Extends, Puts, Leads}
 use Rattle.code_tree.proofs.IndexLemmas.{all_as}
 use Rattle.code_tree.proofs.WayLemmas.{path_whole, way_whole, path_on, joined_more}
@@ -121,7 +121,6 @@ leads_more old mid new front instr end node leads puts =
           (either_way other (length mid.instrs));
     }
   where
-
     either_way : (m n : ℕ) → (m < n) ⊎ (n ≤ m)
     either_way m zero = inr (omega arith)
     either_way zero (suc n) = inl (omega arith)
@@ -156,3 +155,39 @@ within_nodes trees at list k are all below =
     let node = get_or list k 0 in
     let lt = slice_get_within trees.above node at ((all.exact node).0 (Contains-get_or list k 0 below)) in
     omega (arith, lt, are.each_node)
+
+-- a place in a list in order is at most the number there
+pub rises_to : (list : List ℕ) → AllPairs (λ a b. a < b) list → (k : ℕ) → k < length list → k ≤ get_or list k 0
+rises_to list rising zero below = omega arith
+rises_to list rising (suc k) below =
+    let before = rises_to list rising k (omega arith) in
+    let less = rising k (suc k) 0 (omega arith) below in
+    omega arith
+
+-- the path from the node above
+pub path_up : (trees : Trees) (above top node : ℕ) (code : List Instr) → AreTrees trees → slice_get trees.above top ≡ Some (Some above) → Path trees top node code → (longer : List Instr) × Path trees above node longer
+path_up trees above top node code are place path =
+    let less = are.later above top place in
+    let top_within = slice_get_within trees.above top (Some above) place in
+    let has = element_at trees.instrs above (omega (arith, are.each_node)) in
+    (has.0 ∷ code, down has.1 place path)
+
+pub path_none : (trees : Trees) (node : ℕ) → node < length trees.instrs → (code : List Instr) × Path trees node node code
+path_none trees node within = let has = element_at trees.instrs node within in (has.0 ∷ [], here has.1)
+
+pub above_within : (trees : Trees) (above top : ℕ) → AreTrees trees → slice_get trees.above top ≡ Some (Some above) → above < length trees.instrs
+above_within trees above top are place =
+    let less = are.later above top place in
+    let top_within = slice_get_within trees.above top (Some above) place in
+    omega (arith, less, top_within, are.each_node)
+
+-- a place among nodes is below their number
+pub place_small : (trees : Trees) (at : Option ℕ) (list : List ℕ) (k : ℕ) → AreTrees trees → length trees.instrs < 2 ^ 32 → AreAll (λ m. slice_get trees.above m ≡ Some at) list → k < length list → k < 2 ^ 32
+place_small trees at list k are few all below =
+    let rise = rises_to list all.rising k below in
+    let within = within_nodes trees at list k are all below in
+    omega arith
+
+-- what is in a list stands at a place
+pub not_passed : (P : ℕ → Type 0) (list : List ℕ) (x n : ℕ) → AreAll P list → P x → length list ≤ n → ((k : ℕ) → k < n → get_or list k 0 ≡ x → ⊥) → ⊥
+not_passed P list x n all has long none = let there = (all.exact x).1 has in none there.0 (omega (arith, there.1, long)) (get_or_default list there.0 0 x there.1 ∙ there.2)

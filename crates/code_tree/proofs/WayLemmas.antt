@@ -30,15 +30,15 @@ module _ (trees : Trees) (joined : AreJoined trees) where
   one_end (instr ∷ rest) above r s n m r_above s_above left right =
       let same : r ≡ s = joined r s above instr r_above s_above (begins left) (begins right) in
       ⊎_elim
-        (λ one. ⊎_elim
-            (λ other. one.0 ∙ same ∙ sym other.0)
-            (λ goes. absurd (no_path (subst (Path trees goes.next m) one.2 goes.path)))
-            (path_cases right))
-        (λ goes. ⊎_elim
-            (λ other. absurd (no_path (subst (Path trees goes.next n) other.2 goes.path)))
-            (λ goes'. one_end rest (Some r) goes.next goes'.next n m goes.below (subst (λ x. slice_get trees.above goes'.next ≡ Some (Some x)) (sym same) goes'.below) goes.path goes'.path)
-            (path_cases right))
-        (path_cases left)
+      (λ one. ⊎_elim
+      (λ other. one.0 ∙ same ∙ sym other.0)
+      (λ goes. absurd (no_path (subst (Path trees goes.next m) one.2 goes.path)))
+      (path_cases right))
+      (λ goes. ⊎_elim
+      (λ other. absurd (no_path (subst (Path trees goes.next n) other.2 goes.path)))
+      (λ goes'. one_end rest (Some r) goes.next goes'.next n m goes.below (subst (λ x. slice_get trees.above goes'.next ≡ Some (Some x)) (sym same) goes'.below) goes.path goes'.path)
+      (path_cases right))
+      (path_cases left)
 
 -- each front of a code leads to a node on the way
 pub path_front : {trees : Trees} (front rest : List Instr) (instr : Instr) {node end : ℕ} → Path trees node end (instr ∷ front ++ rest) → (middle : ℕ) × Path trees node middle (instr ∷ front)
@@ -79,13 +79,13 @@ way_new {trees} end code instr each way = record {
 pub joined_more : (trees : Trees) (above : Option ℕ) (instr : Instr) → length trees.above ≡ length trees.instrs → AreJoined trees → ((n : ℕ) → slice_get trees.above n ≡ Some above → slice_get trees.instrs n ≡ Some instr → ⊥) → AreJoined (with_node trees above instr)
 joined_more trees above instr each joined none n m a i na ma ni mi = ⊎_elim
     (λ n_old. ⊎_elim
-        (λ m_old. joined n m a i n_old m_old (old_instr n a n_old ni) (old_instr m a m_old mi))
-        (λ m_new. absurd (clash n a i n_old m_new ni mi))
-        (push_cases trees.above above m a ma))
+    (λ m_old. joined n m a i n_old m_old (old_instr n a n_old ni) (old_instr m a m_old mi))
+    (λ m_new. absurd (clash n a i n_old m_new ni mi))
+    (push_cases trees.above above m a ma))
     (λ n_new. ⊎_elim
-        (λ m_old. absurd (clash m a i m_old n_new mi ni))
-        (λ m_new. n_new.0 ∙ sym m_new.0)
-        (push_cases trees.above above m a ma))
+    (λ m_old. absurd (clash m a i m_old n_new mi ni))
+    (λ m_new. n_new.0 ∙ sym m_new.0)
+    (push_cases trees.above above m a ma))
     (push_cases trees.above above n a na)
   where
     old_instr : (k : ℕ) (a : Option ℕ) {i : Instr} → slice_get trees.above k ≡ Some a → slice_get (trees.instrs ++ instr ∷ []) k ≡ Some i → slice_get trees.instrs k ≡ Some i

@@ -1,7 +1,8 @@
 //! Nodes of trees, each with its instruction.
-ghost use Rattle.std.specs.Prelude.{◌≡◌, ℕ, ◌+◌, ◌-◌, ◌^◌, ◌<◌, ◌≤◌, length, slice_get, Some, IfOk, IfSome, IfNone, OnOk, OnErr};
+ghost use Rattle.std.specs.Prelude.{◌≡◌, ℕ, ◌+◌, ◌-◌, ◌^◌, ◌<◌, ◌≤◌, List, length, slice_get, Some, IfOk, IfSome, IfNone, OnOk, OnErr};
 ghost use Rattle.term_table.specs.Questions.{AreAll, IsNth};
-ghost use Rattle.code_tree.specs.Trees.{AreTrees, IsNext, IsRoot, trees_front, with_node};
+ghost use Rattle.code_tree.specs.Trees.{AreTrees, IsRoot, Path, trees_front, with_node};
+ghost use Rattle.pattern_code.specs.declared.code.Instr.{Instr};
 ghost use Rattle.code_tree.specs.NodesInside.{above_of, Extends, Leads, Puts};
 
 use crate::index::Index;
@@ -97,6 +98,52 @@ impl NodeTable {
     {
         let nexts = self.nexts(at);
         nexts.get(k as usize).copied()
+    }
+
+    /// The root above a node.
+    pub fn root_above(&self, node: u32) -> u32
+        requires { node < length self.now.instrs }
+        ensures root { IsRoot self.now result }
+        ensures path { (code : List Instr) × Path self.now result node code }
+    {
+        let _len = self.len();
+        let mut top = node;
+        while let Some(above) = self.above(top) {
+            top = above;
+        }
+        top
+    }
+
+    /// The number of a root among the roots.
+    pub fn root_number(&self, root: u32) -> u32
+        requires { IsRoot self.now root }
+        ensures { IsNth (IsRoot self.now) result (Some root) }
+    {
+        let _len = self.len();
+        for (number, other) in self.nexts(None).iter().enumerate() {
+            if *other == root {
+                return number as u32;
+            }
+        }
+        unreachable!()
+    }
+
+    /// The number of the root that begins with this symbol and so many arguments.
+    pub fn root_with(&self, symbol: u32, arguments: u32) -> Option<u32>
+        ensures some { IfSome result (λ tree. (root : ℕ) × IsNth (IsRoot self.now) tree (Some root) × (slice_get self.now.instrs root ≡ Some (Instr.Init symbol arguments))) }
+        ensures none { IfNone result ((root : ℕ) → IsRoot self.now root → slice_get self.now.instrs root ≡ Some (Instr.Init symbol arguments) → ⊥) }
+    {
+        let root = self.next_init(symbol, arguments)?;
+        Some(self.root_number(root))
+    }
+
+    /// The root that begins with this symbol and so many arguments.
+    fn next_init(&self, symbol: u32, arguments: u32) -> Option<u32>
+        ensures root { IfSome result (λ root. IsRoot self.now root) }
+        ensures has { IfSome result (λ root. slice_get self.now.instrs root ≡ Some (Instr.Init symbol arguments)) }
+        ensures none { IfNone result ((root : ℕ) → IsRoot self.now root → slice_get self.now.instrs root ≡ Some (Instr.Init symbol arguments) → ⊥) }
+    {
+        self.next_with(None, &Instr::Init { symbol, arguments })
     }
 
     /// The node next after this one, or the root, with this instruction.
