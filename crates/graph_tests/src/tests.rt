@@ -1,10 +1,10 @@
 //! Both graphs on the same operations.
 mod agreement;
+mod calls;
 mod pair;
 
-use agreement::agree;
 use congruence::{Clash, Graph};
-use pair::{Pair, SYMBOLS, add, first_pair, step, trigger};
+use pair::{Pair, add, differ, first_pair, grow, live, merge, step, takes_back, trigger};
 use std::alloc::Global;
 use std::test::Fail;
 use std::thread::join;
@@ -13,37 +13,32 @@ use term_table::{ClassGraph, Memory, Op, TableFault};
 /// The terms 2 to 7 are `a`, `b`, `f(a)`, `f(b)`, `f(f(a))` and `g(a, b)`.
 fn example(alloc: Global) -> Result<Pair, TableFault> {
     let mut example = first_pair(alloc)?;
-    for (symbol, args) in [
-        (2, [].as_slice()),
-        (3, &[]),
-        (4, &[2]),
-        (4, &[3]),
-        (4, &[4]),
-        (5, &[2, 3]),
-    ] {
-        let op = add(alloc, symbol, args)?;
-        let _agrees = step(&mut example, op)?;
-    }
+    let _a = grow(&mut example, alloc, 2, &[])?;
+    let _b = grow(&mut example, alloc, 3, &[])?;
+    let _first = grow(&mut example, alloc, 4, &[2])?;
+    let _second = grow(&mut example, alloc, 4, &[3])?;
+    let _third = grow(&mut example, alloc, 4, &[4])?;
+    let _last = grow(&mut example, alloc, 5, &[2, 3])?;
     Ok(example)
+}
+
+/// Whether each term from a number on has this leader.
+fn are_led(graph: &Graph, first: u32, leader: u32) -> bool {
+    (first..graph.len()).all(|term| graph.leader(term) == leader)
 }
 
 #[test]
 fn a_chain_collapses_to_one_class(rt: HostRuntime) -> Result<(), Fail> {
     let alloc = rt.alloc();
     let mut chain = first_pair(alloc)?;
-    let op = add(alloc, 2, &[])?;
-    assert!(rt; step(&mut chain, op)?);
+    assert!(rt; grow(&mut chain, alloc, 2, &[])?);
     for below in 2..8 {
-        let op = add(alloc, 4, &[below])?;
-        assert!(rt; step(&mut chain, op)?);
+        assert!(rt; grow(&mut chain, alloc, 4, &[below])?);
     }
-    for (left, right) in [(5, 2), (2, 7)] {
-        assert!(rt; step(&mut chain, Op::Merge { left, right })?);
-    }
+    assert!(rt; merge(&mut chain, 5, 2)?);
+    assert!(rt; merge(&mut chain, 2, 7)?);
     assert_eq!(rt; chain.graph.len(), 9);
-    for term in 2..chain.graph.len() {
-        assert_eq!(rt; chain.graph.leader(term), 2);
-    }
+    assert!(rt; are_led(&chain.graph, 2, 2));
     Ok(())
 }
 
@@ -52,29 +47,20 @@ fn a_pop_gives_the_graph_at_its_push(rt: HostRuntime) -> Result<(), Fail> {
     let alloc = rt.alloc();
     let mut levels = example(alloc)?;
     let outer = levels.graph.front();
-    let more = add(alloc, 4, &[6])?;
-    let live = Op::Live {
-        trigger: trigger(alloc)?,
-    };
-    for op in [
-        Op::Push,
-        Op::Merge { left: 2, right: 3 },
-        live,
-        Op::Push,
-        more,
-        Op::Merge { left: 8, right: 2 },
-        Op::Differ { left: 4, right: 5 },
-    ] {
-        assert!(rt; step(&mut levels, op)?);
-    }
-    assert_eq!(rt; levels.graph.depth(), 2);
+    assert!(rt; step(&mut levels, Op::Push)?);
+    assert!(rt; merge(&mut levels, 2, 3)?);
+    assert!(rt; live(&mut levels, alloc)?);
+    assert!(rt; step(&mut levels, Op::Push)?);
+    assert!(rt; grow(&mut levels, alloc, 4, &[6])?);
+    assert!(rt; merge(&mut levels, 8, 2)?);
+    assert!(rt; differ(&mut levels, 4, 5)?);
     let inner = levels.graph.front();
-    for (depth, terms) in [(1, 8), (0, 8)] {
-        assert!(rt; step(&mut levels, Op::Pop)?);
-        assert_eq!(rt; (levels.graph.depth(), levels.graph.len()), (depth, terms));
-    }
+    assert_eq!(rt; (levels.graph.depth(), levels.graph.len()), (2, 9));
+    assert!(rt; step(&mut levels, Op::Pop)?);
+    assert_eq!(rt; (levels.graph.depth(), levels.graph.len()), (1, 8));
+    assert!(rt; step(&mut levels, Op::Pop)?);
+    assert_eq!(rt; (levels.graph.depth(), levels.graph.version()), (0, 15));
     assert!(rt; levels.graph.still_front(&outer) && !levels.graph.still_front(&inner));
-    assert_eq!(rt; (levels.graph.front(), levels.graph.version()), (outer, 15));
     Ok(())
 }
 
@@ -94,18 +80,23 @@ fn drawn(alloc: Global, terms: u32, number: u32) -> Result<Op, Memory> {
     }
 }
 
+/// Does one operation that a number stands for.
+fn draw(pair: &mut Pair, alloc: Global, number: u32) -> Result<bool, TableFault> {
+    let op = drawn(alloc, pair.graph.len(), number)?;
+    step(pair, op)
+}
+
 #[test]
 fn lists_of_operations_are_done_alike(rt: HostRuntime) -> Result<(), Fail> {
     let alloc = rt.alloc();
     let mut seed = 5u64;
-    for list in 0..8 {
+    for _list in 0..8 {
         let mut pair = first_pair(alloc)?;
         for _operation in 0..24 {
             seed = seed
                 .wrapping_mul(6_364_136_223_846_793_005)
                 .wrapping_add(1_442_695_040_888_963_407);
-            let op = drawn(alloc, pair.graph.len(), (seed >> 33) as u32)?;
-            assert!(rt; step(&mut pair, op)?, "list {list}");
+            assert!(rt; draw(&mut pair, alloc, (seed >> 33) as u32)?);
         }
     }
     Ok(())
@@ -115,20 +106,17 @@ fn lists_of_operations_are_done_alike(rt: HostRuntime) -> Result<(), Fail> {
 fn the_first_clash_is_told(rt: HostRuntime) -> Result<(), Fail> {
     let alloc = rt.alloc();
     let mut pair = example(alloc)?;
-    let fourth_and_fifth = Some(Clash { left: 4, right: 5 });
-    let true_and_false = Some(Clash { left: 0, right: 1 });
-    for (op, wanted) in [
-        (Op::Differ { left: 0, right: 7 }, None),
-        (Op::Differ { left: 4, right: 5 }, None),
-        (Op::Differ { left: 2, right: 3 }, None),
-        (Op::Push, None),
-        (Op::Merge { left: 3, right: 2 }, fourth_and_fifth),
-        (Op::Merge { left: 1, right: 0 }, true_and_false),
-        (Op::Pop, None),
-    ] {
-        assert!(rt; step(&mut pair, op)?);
-        assert_eq!(rt; pair.graph.clash(), wanted);
-    }
+    assert!(rt; differ(&mut pair, 0, 7)?);
+    assert!(rt; differ(&mut pair, 4, 5)?);
+    assert!(rt; differ(&mut pair, 2, 3)?);
+    assert!(rt; step(&mut pair, Op::Push)?);
+    assert_eq!(rt; pair.graph.clash(), None);
+    assert!(rt; merge(&mut pair, 3, 2)?);
+    assert_eq!(rt; pair.graph.clash(), Some(Clash { left: 4, right: 5 }));
+    assert!(rt; merge(&mut pair, 1, 0)?);
+    assert_eq!(rt; pair.graph.clash(), Some(Clash { left: 0, right: 1 }));
+    assert!(rt; step(&mut pair, Op::Pop)?);
+    assert_eq!(rt; pair.graph.clash(), None);
     Ok(())
 }
 
@@ -136,23 +124,12 @@ fn the_first_clash_is_told(rt: HostRuntime) -> Result<(), Fail> {
 fn the_last_operation_is_taken_back(rt: HostRuntime) -> Result<(), Fail> {
     let alloc = rt.alloc();
     let mut pair = example(alloc)?;
-    let more = add(alloc, 4, &[6])?;
-    let live = Op::Live {
-        trigger: trigger(alloc)?,
-    };
-    for op in [
-        more,
-        Op::Merge { left: 2, right: 3 },
-        Op::Differ { left: 2, right: 3 },
-        live,
-    ] {
-        assert!(rt; pair.graph.lawful(&op));
-        pair.graph.apply(&op)?;
-        assert!(rt; !agree(&pair.plain, &pair.graph, SYMBOLS));
-        assert!(rt; pair.graph.can_take_back());
-        pair.graph.take_back();
-        assert!(rt; agree(&pair.plain, &pair.graph, SYMBOLS));
-    }
+    let op = add(alloc, 4, &[6])?;
+    assert!(rt; takes_back(&mut pair, op)?);
+    assert!(rt; takes_back(&mut pair, Op::Merge { left: 2, right: 3 })?);
+    assert!(rt; takes_back(&mut pair, Op::Differ { left: 2, right: 3 })?);
+    let trigger = trigger(alloc)?;
+    assert!(rt; takes_back(&mut pair, Op::Live { trigger })?);
     assert!(rt; step(&mut pair, Op::Push)?);
     assert!(rt; !pair.graph.can_take_back());
     Ok(())
@@ -162,35 +139,20 @@ fn the_last_operation_is_taken_back(rt: HostRuntime) -> Result<(), Fail> {
 fn each_call_answers_and_refuses(rt: HostRuntime) -> Result<(), Fail> {
     let alloc = rt.alloc();
     let mut graph = Graph::new(alloc, 6)?;
-    for (symbol, term, fresh) in [(2, 2, true), (3, 3, true), (2, 2, false)] {
-        let added = graph.add(symbol, &[])?;
-        assert_eq!(rt; (added.term, added.fresh), (term, fresh));
-        assert_eq!(rt; added.unions.len(), 0);
-    }
-    for (term, wanted) in [(2, 4), (3, 5)] {
-        assert!(rt; term < graph.len());
-        assert_eq!(rt; graph.add(4, &[term])?.term, wanted);
-    }
-    assert!(rt; graph.add(5, &[]).is_err());
-    assert!(rt; graph.len() == graph.limit());
+    assert_eq!(rt; calls::add(&mut graph, 2, &[])?, Some((2, true, 0)));
+    assert_eq!(rt; calls::add(&mut graph, 3, &[])?, Some((3, true, 0)));
+    assert_eq!(rt; calls::add(&mut graph, 2, &[])?, Some((2, false, 0)));
+    assert_eq!(rt; calls::add(&mut graph, 4, &[2])?, Some((4, true, 0)));
+    assert_eq!(rt; calls::add(&mut graph, 4, &[3])?, Some((5, true, 0)));
+    assert_eq!(rt; calls::add(&mut graph, 5, &[]), Err(TableFault::Full));
+    assert_eq!(rt; graph.limit(), 6);
     graph.push()?;
-    assert!(rt; graph.len() == 6);
-    let unions = graph.merge(3, 2)?;
-    assert_eq!(rt; unions.len(), 2);
-    assert!(rt; graph.len() == 6);
-    graph.differ(4, 5)?;
-    let trigger = trigger(alloc)?;
-    assert!(rt; trigger.valid());
-    graph.live(&trigger)?;
-    assert!(rt; graph.triggers() == 1);
-    assert_eq!(rt; graph.trigger(0).variables, 1);
+    assert_eq!(rt; calls::merge(&mut graph, 3, 2)?, Some(2));
+    assert!(rt; calls::differ(&mut graph, 4, 5)?);
+    assert_eq!(rt; calls::live(&mut graph, alloc)?, Some(1));
     let (clash, version) = join(&rt, || graph.clash(), || graph.version());
     assert_eq!(rt; (clash, version), (Some(Clash { left: 4, right: 5 }), 8));
-    assert!(rt; graph.depth() > 0);
-    graph.pop();
-    assert_eq!(rt;
-        (graph.clash(), graph.version(), graph.triggers()),
-        (None, 9, 0)
-    );
+    assert!(rt; calls::pop(&mut graph));
+    assert_eq!(rt; (graph.clash(), graph.version()), (None, 9));
     Ok(())
 }

@@ -57,3 +57,40 @@ pub fn step(pair: &mut Pair, op: Op) -> Result<bool, TableFault> {
     }
     Ok(agree(&pair.plain, &pair.graph, SYMBOLS))
 }
+
+/// Adds a row in both graphs.
+pub fn grow(pair: &mut Pair, alloc: Global, symbol: u32, args: &[u32]) -> Result<bool, TableFault> {
+    let op = add(alloc, symbol, args)?;
+    step(pair, op)
+}
+
+/// Merges two terms in both graphs.
+pub fn merge(pair: &mut Pair, left: u32, right: u32) -> Result<bool, TableFault> {
+    step(pair, Op::Merge { left, right })
+}
+
+/// Keeps two terms apart in both graphs.
+pub fn differ(pair: &mut Pair, left: u32, right: u32) -> Result<bool, TableFault> {
+    step(pair, Op::Differ { left, right })
+}
+
+/// Makes the trigger live in both graphs.
+pub fn live(pair: &mut Pair, alloc: Global) -> Result<bool, TableFault> {
+    let trigger = trigger(alloc)?;
+    step(pair, Op::Live { trigger })
+}
+
+/// Does the operation in the graph with a trail alone and takes it back, and tells whether the graphs differed meanwhile
+/// and agree again.
+pub fn takes_back(pair: &mut Pair, op: Op) -> Result<bool, TableFault> {
+    if !pair.graph.lawful(&op) {
+        return Ok(false);
+    }
+    pair.graph.apply(&op)?;
+    let apart = !agree(&pair.plain, &pair.graph, SYMBOLS);
+    if !pair.graph.can_take_back() {
+        return Ok(false);
+    }
+    pair.graph.take_back();
+    Ok(apart && agree(&pair.plain, &pair.graph, SYMBOLS))
+}
