@@ -3,3 +3,4 @@ pub mod CheckLemmas
 pub mod Machines
 pub mod Openings
 pub mod Walks
+pub mod ForallLemmas

@@ -22,12 +22,13 @@ use Rattle.smt_terms.specs.declared.frame.Opened.{Opened}
 use Rattle.smt_terms.specs.declared.frame.Opened.TheVariants as opened
 use Rattle.smt_terms.specs.declared.frame.Next.{Next}
 use Rattle.smt_terms.specs.declared.frame.Next.TheVariants as step
+use Rattle.smt_terms.specs.declared.frame.Walked.{Walked}
 use Rattle.smt_terms.specs.declared.frame.Step.{Step}
 use Rattle.smt_terms.specs.declared.frame.Step.TheVariants as kind
 use Rattle.smt_terms.specs.Meant.{Meant, Meaning, End, Token, Group}
 use Rattle.smt_terms.specs.Terms.{value, token_value, list_value, forall_value}
 use Rattle.smt_terms.specs.Cursor.{word_at, here, SeesList, SeesToken}
-use Rattle.smt_terms.specs.Machine.{outside, goes_by, finish, resume, weight, load, base_of, bound_round, weight_by, scope_of, rest_of, work_of, work_in, given_to, GoesOn, GivesOn, Opens, IsUniversalAt, Progress, Before, Steps, step_of, step_for}
+use Rattle.smt_terms.specs.Machine.{outside, goes_by, finish, resume, weight, load, base_of, bound_round, weight_by, scope_of, rest_of, work_of, work_in, given_to, GoesOn, GivesOn, Opens, IsUniversalAt, Advances, Stands, Walks, Progress, Before, Steps, step_of, step_for}
 use Rattle.smt_terms.proofs.Machines.{pushed, at_token, at_list}
 use Rattle.smt_terms.proofs.Openings.{refuses_same}
 
@@ -165,3 +166,25 @@ at_start words state inside missing bound frames i draft empty = rw empty refl
 pub base_at_start : (frames : List Frame) (bound : List Bound) → frames ≡ [] → base_of (reverse frames) bound ≡ bound
 unfolding base_of
 base_at_start frames bound empty = rw empty refl
+
+-- a step that goes on advances
+pub advances_by : (words : List Word) (state : State) (inside : Inside) (missing : Place) (frames : List Frame) (bound : List Bound) (new : List Frame) (later_bound : List Bound) (draft later : Draft) (i : ℕ) (n : Next)
+    → Progress words state inside missing frames bound new later_bound draft later i n → Advances words state inside missing frames bound new later_bound draft later i (Ok n)
+advances_by words state inside missing frames bound new later_bound draft later i (step.At j) p = (p.goes.0, p.goes.2, omega (arith, p.less, p.goes.1))
+advances_by words state inside missing frames bound new later_bound draft later i (step.Whole v) p = p.goes
+
+-- what advances from where going on ended advances from where it began
+pub advances_after : (words : List Word) (state : State) (inside : Inside) (missing : Place) (frames : List Frame) (bound : List Bound) (mid : List Frame) (mid_bound : List Bound) (new : List Frame) (new_bound : List Bound) (draft mid_draft later : Draft) (i at after : ℕ) (r : Result Next Stop)
+    → Stands words state inside missing frames bound mid mid_bound draft mid_draft i at after → Advances words state inside missing mid mid_bound new new_bound mid_draft later at r
+    → Advances words state inside missing frames bound new new_bound draft later i r
+advances_after words state inside missing frames bound mid mid_bound new new_bound draft mid_draft later i at after (Ok (step.At j)) s a = (s.same ∙ a.0, a.1 ∙ s.base, omega (arith, a.2, s.no_more))
+advances_after words state inside missing frames bound mid mid_bound new new_bound draft mid_draft later i at after (Ok (step.Whole v)) s a = (s.same ∙ a.0, a.1 ∙ s.base)
+advances_after words state inside missing frames bound mid mid_bound new new_bound draft mid_draft later i at after (Err stopped) s a = refuses_same stopped _ _ (λ fault e. s.same ∙ e) a
+
+pub stands_so : (words : List Word) (state : State) (inside : Inside) (missing : Place) (frames : List Frame) (bound : List Bound) (new : List Frame) (new_bound : List Bound) (draft later : Draft) (i : ℕ) (w v : Walked) → w ≡ v
+    → Walks words state inside missing frames bound new new_bound draft later i (Ok w) → Walks words state inside missing frames bound new new_bound draft later i (Ok v)
+stands_so words state inside missing frames bound new new_bound draft later i w v e walks = subst (λ (x : Walked). Walks words state inside missing frames bound new new_bound draft later i (Ok x)) e walks
+
+pub gives_on_from : (words : List Word) (popped : List Frame) (found bound : List Bound) (new : List Frame) (later : List Bound) (next : ℕ) (at : Place) (v : Value) (n : Next) → found ≡ bound
+    → GivesOn words popped found new later next at v (Ok n) → GivesOn words popped bound new later next at v (Ok n)
+gives_on_from words popped found bound new later next at v n e gives = subst (λ (b : List Bound). GivesOn words popped b new later next at v (Ok n)) e gives

@@ -4,3 +4,4 @@ pub mod Terms
 pub mod Cursor
 pub mod Machine
 pub mod Checks
+pub mod Bodies

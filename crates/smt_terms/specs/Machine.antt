@@ -239,3 +239,11 @@ IsHeadOf state name (Some h) = (h ≡ head_of state name) × (is_known (named_by
 -- a forall outside foralls and definitions stands at a place
 abbrev pub IsUniversalAt : List Word → Inside → ℕ → Type 0
 IsUniversalAt words inside i = IsUniversal inside (list_value (word_at words i) (here words (i + 1))) (word_at words i).place (word_at words (i + 1)).place (here words (i + 2))
+
+-- What going on behind the next forall did: there is less to do, or the value of the whole is there, or it is refused.
+abbrev pub Advances : List Word → State → Inside → Place → List Frame → List Bound → List Frame → List Bound → Draft → Draft → ℕ → Result Next Stop → Type 0
+Advances words state inside missing frames bound new_frames new_bound draft later i (Ok (step.At j)) =
+    (rest_of words state inside missing frames bound i draft ≡ rest_of words state inside missing new_frames new_bound j later)
+    × (base_of (reverse new_frames) new_bound ≡ base_of (reverse frames) bound) × (work_of words new_frames j < work_of words frames i)
+Advances words state inside missing frames bound new_frames new_bound draft later i (Ok (step.Whole v)) = (rest_of words state inside missing frames bound i draft ≡ Ok (v, later)) × (new_bound ≡ base_of (reverse frames) bound)
+Advances words state inside missing frames bound new_frames new_bound draft later i (Err stop) = Refuses stop (rest_of words state inside missing frames bound i draft)

@@ -4,13 +4,13 @@ ghost use Rattle.smt_text.specs.declared.token.Place.{Place};
 ghost use Rattle.smt_names.specs.Makes.{Makes};
 ghost use Rattle.smt_terms.specs.Terms.{value};
 ghost use Rattle.smt_terms.specs.Cursor.{word_at, here, SeesList};
-ghost use Rattle.smt_terms.specs.Machine.{scope_of, Steps, IsUniversalAt};
+ghost use Rattle.smt_terms.specs.Machine.{scope_of, Advances, IsUniversalAt};
 
 use crate::cursor::place_at;
 use crate::foralls::put_forall;
-use crate::frame::{Frame, Inside, Step, Walked};
+use crate::frame::{Frame, Inside, Next, Walked};
 use crate::giving::give;
-use crate::walking::{step_to, walk};
+use crate::walking::walk;
 use formula_shape::ShapeDraft;
 use smt_names::{Arg, BoundNames, SessionState, Stop, Value};
 use smt_text::{Place, Tree};
@@ -27,10 +27,10 @@ fn pass_forall(
     inside: Inside,
     i: u32,
     after: u32,
-) -> Result<Step, Stop>
+) -> Result<Next, Stop>
     requires list { SeesList tree.now i after }
     requires universal { IsUniversalAt tree.now inside i }
-    ensures { (missing : Place) → Steps tree.now state.now inside missing frames.old.items bound.old frames.new.items bound.new draft.old draft.new i result }
+    ensures { (missing : Place) → Advances tree.now state.now inside missing frames.old.items bound.old frames.new.items bound.new draft.old draft.new i result }
 {
     match put_forall(alloc, draft, state, tree, bound, inside, i) {
         Err(stop) => Err(stop),
@@ -38,8 +38,31 @@ fn pass_forall(
             let place = place_at(tree, i);
             match give(alloc, tree, frames, bound, after, Arg { place, value }) {
                 Err(_) => Err(Stop::Memory),
-                Ok(next) => Ok(step_to(next)),
+                Ok(next) => Ok(next),
             }
+        }
+    }
+}
+
+/// Goes on behind the next forall, or to the value of the whole.
+fn advance(
+    alloc: Global,
+    draft: &mut ShapeDraft,
+    state: &SessionState,
+    tree: &Tree,
+    missing: Place,
+    frames: &mut Vec<Frame>,
+    bound: &mut BoundNames,
+    inside: Inside,
+    i: u32,
+) -> Result<Next, Stop>
+    ensures { Advances tree.now state.now inside missing frames.old.items bound.old frames.new.items bound.new draft.old draft.new i result }
+{
+    match walk(alloc, draft, state, tree, missing, frames, bound, inside, i) {
+        Err(stop) => Err(stop),
+        Ok(Walked::Whole(value)) => Ok(Next::Whole(value)),
+        Ok(Walked::Universal { at, after }) => {
+            pass_forall(alloc, draft, state, tree, frames, bound, inside, at, after)
         }
     }
 }
@@ -61,17 +84,10 @@ pub fn elaborate_term(
     let mut frames = Vec::new(alloc);
     let mut i = at;
     loop {
-        match walk(alloc, draft, state, tree, missing, &mut frames, bound, inside, i) {
+        match advance(alloc, draft, state, tree, missing, &mut frames, bound, inside, i) {
             Err(stop) => return Err(stop),
-            Ok(Walked::Whole(value)) => return Ok(value),
-            Ok(Walked::Universal { at: list, after }) => {
-                match pass_forall(alloc, draft, state, tree, &mut frames, bound, inside, list, after) {
-                    Err(stop) => return Err(stop),
-                    Ok(Step::Universal { .. }) => return Err(Stop::Memory),
-                    Ok(Step::Whole(value)) => return Ok(value),
-                    Ok(Step::At(next)) => i = next,
-                }
-            }
+            Ok(Next::Whole(value)) => return Ok(value),
+            Ok(Next::At(next)) => i = next,
         }
     }
 }

@@ -1,7 +1,7 @@
 //! Terms and formulas: what each tree of a command means, and its elaboration with a stack of its own.
 #![tactic(auto)]
 
-mod applying;
+mod bodies;
 mod checks;
 mod cursor;
 mod elaborate;

@@ -2,37 +2,19 @@
 ghost use Rattle.std.specs.Prelude.{◌≡◌, option_copied, true, List, not, ◌||◌, is_some};
 ghost use Rattle.smt_text.specs.declared.token.Kind.TheVariants.{Symbol};
 ghost use Rattle.smt_names.specs.declared.bound.Bound.{Bound};
-ghost use Rattle.smt_names.specs.Making.{row};
 ghost use Rattle.smt_names.specs.Makes.{Makes};
 ghost use Rattle.smt_names.specs.Names.{State, named, bound_as, word_of};
 ghost use Rattle.smt_terms.specs.Terms.{stood_for, free_value, name_value, token_value};
 ghost use Rattle.smt_terms.specs.Cursor.{word_at};
 ghost use Rattle.smt_terms.specs.Machine.{scope_of};
 
-use crate::applying::put_applied;
 use crate::cursor::{kind_at, place_at, text_at};
 use crate::frame::Inside;
-use formula_shape::{ShapeDraft, ShapeFault, ShapeRow};
+use formula_shape::{ShapeDraft, ShapeRow};
+use smt_forms::{apply, put_row};
 use smt_names::{BoundNames, Head, Refusal, SessionState, Stands, Stop, Value, is_reserved};
 use smt_text::{Kind, Place, Tree};
 use std::alloc::Global;
-
-/// The number of a row, which is put at a place.
-fn put_row(
-    alloc: Global,
-    draft: &mut ShapeDraft,
-    at: Place,
-    new: ShapeRow,
-) -> Result<u32, Stop>
-    ensures { Makes result draft.old draft.new (row at new) }
-{
-    match draft.row(new) {
-        Ok(n) => Ok(n),
-        Err(ShapeFault::RowsFull) => Err(Stop::at(alloc, Refusal::TermsFull, at)),
-        Err(ShapeFault::NodesFull) => Err(Stop::Memory),
-        Err(ShapeFault::Memory) => Err(Stop::Memory),
-    }
-}
 
 /// Whether a value may stand where it does: inside a forall a formula must have a complement.
 fn may_stand(inside: Inside, complement: Option<u32>) -> bool
@@ -85,7 +67,7 @@ fn put_free(
                 Err(Stop::of_name(alloc, Refusal::UnknownName, at, name))
             }
         }
-        head => put_applied(alloc, draft, state, at, at, name, head, &[]),
+        head => apply(alloc, draft, state, at, at, name, head, &[]),
     }
 }
 

@@ -10,13 +10,13 @@ ghost use Rattle.smt_terms.specs.declared.frame.Inside.{Inside};
 ghost use Rattle.smt_names.specs.declared.bound.Bound.{Bound};
 ghost use Rattle.smt_terms.specs.Machine.{Steps, Walks, scope_of, goes_by, step_of, step_for};
 
-use crate::applying::put_applied;
 use crate::cursor::{Seen, look, place_at, text_at};
 use crate::frame::{Frame, Inside, Next, Opened, Step, Walked, Work};
 use crate::giving::give;
 use crate::opening::open_list;
 use crate::tokens::put_token;
 use formula_shape::ShapeDraft;
+use smt_forms::apply;
 use smt_names::{Arg, BoundNames, Refusal, SessionState, Stop, Value};
 use smt_text::{Place, Tree};
 use std::alloc::Global;
@@ -32,7 +32,7 @@ fn value_of_list(
     ensures { (inside : Inside) (bound : List Bound) → Makes result draft.old draft.new (goes_by tree.now frame.now.work (scope_of state.now inside bound) frame.now End) }
 {
     match &frame.work {
-        Work::Apply { called, head, args } => put_applied(
+        Work::Apply { called, head, args } => apply(
             alloc,
             draft,
             state,
@@ -48,7 +48,7 @@ fn value_of_list(
 }
 
 /// The step that goes on so.
-pub(crate) fn step_to(next: Next) -> Step
+fn step_to(next: Next) -> Step
     ensures { result ≡ step_of next }
 {
     match next {
