@@ -36,3 +36,6 @@ pub use stands::Stands;
 pub use stop::Stop;
 pub use syntax_fault::SyntaxFault;
 pub use value::Value;
+
+#[cfg(test)]
+mod tests;
