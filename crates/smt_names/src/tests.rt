@@ -45,14 +45,20 @@ fn names_stand_for_what_was_declared_until_their_level_is_closed(
     rt: HostRuntime,
 ) -> Result<(), Fail> {
     let mut state = declared(rt.alloc())?;
-    assert_eq!(rt; state.head(b"=>".as_slice()), Head::Core(Connective::Implies));
+    assert_eq!(rt;
+        state.head(b"=>".as_slice()),
+        Head::Core(Connective::Implies)
+    );
     assert_eq!(rt; state.head(b"f".as_slice()), Head::Function(0));
     assert_eq!(rt; state.head(b"d".as_slice()), Head::Definition(0));
     assert_eq!(rt; state.head(b"U".as_slice()), Head::Unknown);
     assert_eq!(rt; state.sort(b"V".as_slice()), Some(2));
     assert_eq!(rt; state.function_name(0), Some(b"f".as_slice()));
     assert_eq!(rt; state.signature(0).map(|signature| signature.sort), Some(1));
-    assert_eq!(rt; state.definition(0).map(|definition| definition.sort), Some(0));
+    assert_eq!(rt;
+        state.definition(0).map(|definition| definition.sort),
+        Some(0)
+    );
     assert!(rt; state.limits() == Limits::standard());
     state.pop(1);
     assert_eq!(rt; state.head(b"d".as_slice()), Head::Unknown);
@@ -76,8 +82,16 @@ fn names_and_sorts_are_refused_for_the_first_reason(rt: HostRuntime) -> Result<(
         (b"g".as_slice(), None, None),
         (b"f".as_slice(), Some(Refusal::AlreadyDeclared), None),
         (b"U".as_slice(), None, Some(Refusal::AlreadyDeclared)),
-        (b"par".as_slice(), Some(Refusal::BadForm), Some(Refusal::BadForm)),
-        (b"@g".as_slice(), Some(Refusal::BadForm), Some(Refusal::BadForm)),
+        (
+            b"par".as_slice(),
+            Some(Refusal::BadForm),
+            Some(Refusal::BadForm),
+        ),
+        (
+            b"@g".as_slice(),
+            Some(Refusal::BadForm),
+            Some(Refusal::BadForm),
+        ),
     ];
     for (name, function, sort) in table {
         let checked = state.check_function_name(Kind::Symbol, HERE, name);
@@ -86,7 +100,10 @@ fn names_and_sorts_are_refused_for_the_first_reason(rt: HostRuntime) -> Result<(
         assert_eq!(rt; refusal(checked), sort);
     }
     let bool = b"Bool".as_slice();
-    assert_eq!(rt; refusal(state.sort_of_token(Kind::Symbol, HERE, bool)), None);
+    assert_eq!(rt;
+        refusal(state.sort_of_token(Kind::Symbol, HERE, bool)),
+        None
+    );
     let sort = state.other_sort_of_token(Kind::Symbol, HERE, bool);
     assert_eq!(rt; refusal(sort), Some(Refusal::NotInProfile));
     let name = check_lawful_name(alloc, Kind::Keyword, HERE, b":g".as_slice());
@@ -110,7 +127,10 @@ fn the_last_binding_of_a_name_wins(rt: HostRuntime) -> Result<(), Fail> {
     let found = bound.find(b"x".as_slice()).map(|binding| binding.stands);
     assert_eq!(rt; found, Some(variable));
     assert!(rt; bound.find(b"z".as_slice()).is_none());
-    assert_eq!(rt; (value.row(), value.sort(), value.complement()), (7, 1, None));
+    assert_eq!(rt;
+        (value.row(), value.sort(), value.complement()),
+        (7, 1, None)
+    );
     let formula = Value::Formula {
         itself: 3,
         complement: Some(4),
