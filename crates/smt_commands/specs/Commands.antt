@@ -23,8 +23,6 @@ use Rattle.smt_commands.specs.declared.command.Command.TheVariants.{Silent, Unsu
 use Rattle.smt_commands.specs.declared.named.Named.{Named}
 use Rattle.smt_commands.specs.declared.named.Named.TheVariants as named
 use Rattle.smt_commands.specs.declared.info.Info.{Info}
-use Rattle.smt_commands.specs.declared.named.Named.{Named}
-use Rattle.smt_commands.specs.declared.named.Named.TheVariants as named
 use Rattle.smt_commands.specs.declared.info.Info.TheVariants as info
 
 -- what a command answers, with the state after it

@@ -15,7 +15,8 @@ use Rattle.smt_names.specs.Names.{State, bound_of}
 use Rattle.smt_terms.specs.Meant.{Meant, Meaning, End, Token, Group, from, no_binding as refused_binding, other_sort, attributes_of}
 use Rattle.smt_terms.specs.Terms.{variables_from, Attribute, attribute_if, patterns_in, body_of, Body, is_annotation, is_pattern_key, list_value}
 use Rattle.smt_terms.specs.Cursor.{word_at, here, is_binding, SeesBinding}
-use Rattle.smt_terms.specs.Bodies.{attribute_at, attributes_at, is_annotated, IsAnnotated}
+use Rattle.smt_terms.specs.Bodies.{attribute_at, attributes_at, is_annotated, IsAnnotated, SeesAnnotated}
+use Rattle.smt_terms.specs.Machine.{weight}
 use Rattle.smt_terms.proofs.CheckLemmas.{refuses_all}
 
 pub no_binding_none : (refusal : Refusal) (trees : Meant) (draft : Draft) → is_binding trees ≡ false → refused_binding refusal trees draft ≡ Ok (tt {0}, draft)
@@ -123,3 +124,29 @@ body_here so_far (Token w trees) draft none = refl
 body_here so_far (Group p meaning End trees) draft none = refl
 body_here so_far (Group p meaning (Token w inner) trees) draft none = rw none refl
 body_here so_far (Group p meaning (Group q meant inner more) trees) draft none = refl
+
+pub not_annotated : (trees : Meant) → is_binding trees ≡ false → is_annotated trees ≡ false
+not_annotated End none = refl
+not_annotated (Token w trees) none = refl
+not_annotated (Group p meaning End trees) none = refl
+not_annotated (Group p meaning (Token w inner) trees) none = absurd (cc)
+not_annotated (Group p meaning (Group q meant inner more) trees) none = refl
+
+pub sees_annotated : (words : List Word) (i name behind : ℕ) (b : Bool) → b ≡ is_annotation (word_at words name) → SeesBinding words i name behind → SeesAnnotated words i b
+sees_annotated words i name behind true is sees = record {
+  behind = behind;
+  sees = subst (λ (n : ℕ). SeesBinding words i n behind) sees.named sees;
+  head = ap (λ (n : ℕ). is_annotation (word_at words n)) (sym sees.named) ∙ sym is;
+}
+sees_annotated words i name behind false is sees = ap is_annotated sees.is ∙ sym is
+
+pub weighs_annotated : (words : List Word) (i : ℕ) → IsAnnotated words i → weight words (here words (i + 2)) < weight words (here words i)
+unfolding weight
+weighs_annotated words i annotated = omega (arith, ap (weight words) annotated.sees.is, ap (λ (n : ℕ). weight words (here words n)) two)
+  where
+    two : i + 1 + 1 ≡ i + 2
+    two = omega arith
+
+pub weighs_binding : (words : List Word) (i name behind : ℕ) → SeesBinding words i name behind → weight words (here words behind) < weight words (here words i)
+unfolding weight
+weighs_binding words i name behind sees = omega (arith, ap (weight words) sees.is)

@@ -40,9 +40,13 @@ pub record Kept : Type 0 where
   pub numbers : List ℕ
   pub rows : List PatternRow
 
+-- the new numbers of some rows
+abbrev pub numbered : List ℕ → List ℕ → List ℕ
+numbered numbers rows = map (λ row. get_or numbers row 0) rows
+
 abbrev pub renumbered : List ℕ → ShapeRow → PatternRow
 renumbered numbers (Var index) = pattern.Var index
-renumbered numbers (App symbol args) = pattern.App symbol (map (λ arg. get_or numbers arg 0) args)
+renumbered numbers (App symbol args) = pattern.App symbol (numbered numbers args)
 
 -- one row more, which is kept where it is reached
 abbrev pub kept_if : Bool → Kept → ShapeRow → Kept
@@ -60,7 +64,7 @@ kept_of rows roots = kept_after (reached_from rows roots) (record { numbers = []
 -- The trigger of these roots, with so many variables. It is numbered where the formula is entered.
 abbrev pub trigger_of : ℕ → List ShapeRow → List ℕ → Trigger
 trigger_of variables rows roots = let kept = kept_of rows roots in
-  record { forall = 0; place = 0; variables = variables; rows = kept.rows; roots = map (λ root. get_or kept.numbers root 0) roots }
+  record { forall = 0; place = 0; variables = variables; rows = kept.rows; roots = numbered kept.numbers roots }
 
 abbrev pub is_variable : ℕ → PatternRow → Bool
 is_variable index (pattern.Var i) = i == index

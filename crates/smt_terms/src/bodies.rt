@@ -1,8 +1,8 @@
 //! Foralls: their variables, their bodies and what is round them.
-ghost use Rattle.std.specs.Prelude.{◌≡◌, ◌+◌, ◌++◌, OnOk};
+ghost use Rattle.std.specs.Prelude.{◌≡◌, ◌+◌, ◌++◌, [], OnOk};
 ghost use Rattle.smt_names.specs.Makes.{Checks};
 ghost use Rattle.smt_terms.specs.Meant.{from, no_binding, other_sort};
-ghost use Rattle.smt_terms.specs.Terms.{attribute_if, body_of, is_pattern_key, patterns_in, variables_from};
+ghost use Rattle.smt_terms.specs.Terms.{attribute_if, body_of, is_annotation, is_pattern_key, patterns_in, variables_from};
 ghost use Rattle.smt_terms.specs.Cursor.{word_at, here};
 ghost use Rattle.smt_terms.specs.Bodies.{attribute_at, attributes_at, IsAnnotated, IsBody, PassesAnnotation, SeesAnnotated};
 
@@ -124,16 +124,20 @@ fn gather(patterns: &mut Vec<u32>, tree: &Tree, i: u32) -> Result<(), Memory>
     }
 }
 
+/// Whether a token is the head of a list with attributes.
+fn has_bang(tree: &Tree, i: u32) -> bool
+    ensures { result ≡ is_annotation (word_at tree.now i) }
+{
+    is_symbol(kind_at(tree, i)) && text_at(tree, i) == b"!".as_slice()
+}
+
 /// Whether a list with attributes comes next.
 fn is_annotated_at(tree: &Tree, i: u32) -> bool
     ensures { SeesAnnotated tree.now i result }
 {
     match binding_at(tree, i) {
         None => false,
-        Some(binding) => {
-            is_symbol(kind_at(tree, binding.name))
-                && text_at(tree, binding.name) == b"!".as_slice()
-        }
+        Some(binding) => has_bang(tree, binding.name),
     }
 }
 
