@@ -91,7 +91,7 @@ checks_as (Err stopped) found asked other e checks = refuses_as stopped other as
 pub attributes_hold : (result : Result (Unit {0}) Stop) (head : Place) (trees rest : Meant) → rest ≡ from 1 trees → ((draft : Draft) → at_least 2 head trees draft ≡ Ok (tt {0}, draft)) → Checks result (attributes_after false rest) → Checks result (attributes_of head trees)
 attributes_hold result head trees rest e least checks draft =
     makes_as result draft draft (attributes_of head trees) (attributes_after false rest)
-      (ap (then_from (λ (_ : Unit {0}). attributes_after false (from 1 trees))) (least draft) ∙ ap (λ (t : Meant). attributes_after false t draft) (sym e)) (checks draft)
+    (ap (then_from (λ (_ : Unit {0}). attributes_after false (from 1 trees))) (least draft) ∙ ap (λ (t : Meant). attributes_after false t draft) (sym e)) (checks draft)
 
 pub same_word : (w : Word) (k : Kind) (p : Place) (t : List ℕ) → k ≡ w.kind → p ≡ w.place → t ≡ w.text → word_of k p t ≡ w
 same_word w k p t ek ep et = rw (ek, ep, et) refl
@@ -122,4 +122,4 @@ pub binding_refused : (stopped : Stop) (names : List (List ℕ)) (p : Word) (mea
     → (whole : Making (Unit {0})) → ((draft : Draft) → whole draft ≡ bindings_after names trees draft) → (draft : Draft) → Refuses stopped (whole draft)
 binding_refused stopped names p meaning inner trees rest is refused whole same draft =
     refuses_all stopped (binding_name names p inner draft) (whole draft)
-      (λ fault e. same draft ∙ ap (λ (t : Meant). bindings_after names t draft) is ∙ ap (then_from (λ (name : Word). bindings_after (names ++ name.text ∷ []) rest)) e) (refused draft)
+    (λ fault e. same draft ∙ ap (λ (t : Meant). bindings_after names t draft) is ∙ ap (then_from (λ (name : Word). bindings_after (names ++ name.text ∷ []) rest)) e) (refused draft)

@@ -4,16 +4,18 @@ use Rattle.std.proofs.lemmas.List.{append-nil, map-append}
 use Rattle.smt_text.specs.Word.{Word}
 use Rattle.smt_text.specs.declared.token.Place.{Place}
 use Rattle.formula_shape.specs.Draft.{Draft}
+use Rattle.smt_names.specs.declared.value.Value.{Value}
 use Rattle.smt_names.specs.declared.bound.Bound.{Bound}
 use Rattle.smt_names.specs.declared.stands.Stands.TheVariants.{Variable}
 use Rattle.smt_names.specs.declared.stop.Stop.{Stop}
 use Rattle.smt_names.specs.declared.syntax_fault.SyntaxFault.{SyntaxFault}
 use Rattle.smt_names.specs.declared.refusal.Refusal.{Refusal}
+use Rattle.smt_names.specs.declared.refusal.Refusal.TheVariants as refusal
 use Rattle.smt_names.specs.Making.{Making, made, then_from, ◌>>◌, ◌>>=◌}
 use Rattle.smt_names.specs.Makes.{Makes, Refuses}
-use Rattle.smt_names.specs.Names.{State, bound_of}
-use Rattle.smt_terms.specs.Meant.{Meant, Meaning, End, Token, Group, from, no_binding as refused_binding, other_sort, attributes_of}
-use Rattle.smt_terms.specs.Terms.{variables_from, Attribute, attribute_if, patterns_in, body_of, Body, is_annotation, is_pattern_key, list_value}
+use Rattle.smt_names.specs.Names.{State, Scope, bound_of}
+use Rattle.smt_terms.specs.Meant.{Meant, Meaning, End, Token, Group, from, Listed, exactly, some_bindings, no_binding as refused_binding, other_sort, attributes_of}
+use Rattle.smt_terms.specs.Terms.{variables_from, Attribute, attribute_if, patterns_in, body_of, Body, is_annotation, is_pattern_key, list_value, bound_forall, body_forall, checked_forall}
 use Rattle.smt_terms.specs.Cursor.{word_at, here, is_binding, SeesBinding}
 use Rattle.smt_terms.specs.Bodies.{attribute_at, attributes_at, is_annotated, IsAnnotated, SeesAnnotated}
 use Rattle.smt_terms.specs.Machine.{weight}
@@ -54,13 +56,13 @@ module _ (words : List Word) (state : State) (at name behind index : ℕ) (sees 
       → behind_variables more (variables_from state (index + 1) (here words behind) draft) ≡ behind_variables so_far (variables_from state index (here words at) draft)
   variables_next so_far more text sort draft makes called all = sym
       (ap (behind_variables so_far) (variables_here draft ∙ ap (then_from (λ (s : ℕ). variables_from state (index + 1) (here words behind) >>= λ (vs : List Bound). made (record { name = (word_at words name).text; stands = Variable index s } ∷ vs))) makes)
-        ∙ by (variables_from state (index + 1) (here words behind) draft))
+      ∙ by (variables_from state (index + 1) (here words behind) draft))
     where
       named : more ≡ so_far ++ record { name = (word_at words name).text; stands = Variable index sort } ∷ []
       named = all ∙ ap (λ (t : List ℕ). so_far ++ bound_of t (Variable index sort) ∷ []) called
 
       by : (r : Result (List Bound × Draft) SyntaxFault)
-        → behind_variables so_far (then_from (λ (vs : List Bound). made (record { name = (word_at words name).text; stands = Variable index sort } ∷ vs)) r) ≡ behind_variables more r
+          → behind_variables so_far (then_from (λ (vs : List Bound). made (record { name = (word_at words name).text; stands = Variable index sort } ∷ vs)) r) ≡ behind_variables more r
       by (Ok r) = ap (λ (vs : List Bound). Ok (vs, r.1)) (sym (append_assoc so_far (record { name = (word_at words name).text; stands = Variable index sort } ∷ []) r.0) ∙ ap (λ (xs : List Bound). xs ++ r.0) (sym named))
       by (Err fault) = refl
 
@@ -92,7 +94,7 @@ passes_annotation words keys more i next p draft annotated at holds behind all =
     ap (λ (t : Meant). body_of (attributes_at words keys) t draft) annotated.sees.is
     ∙ ap (λ (b : Bool). cond b (attributes_of (word_at words (i + 1)).place (here words (i + 1 + 1)) >> body_of (attributes_at words keys ++ patterns_in (from 1 (here words (i + 1 + 1)))) (here words (i + 1 + 1))) (made (plain annotated.behind)) draft) annotated.head
     ∙ ap (then_from (λ (_ : Unit {0}). body_of (attributes_at words keys ++ patterns_in (from 1 (here words (i + 1 + 1)))) (here words (i + 1 + 1))))
-        (ap (λ (q : Place). attributes_of q (here words (i + 1 + 1)) draft) (sym at) ∙ ap (λ (n : ℕ). attributes_of p (here words n) draft) two ∙ holds)
+    (ap (λ (q : Place). attributes_of q (here words (i + 1 + 1)) draft) (sym at) ∙ ap (λ (n : ℕ). attributes_of p (here words n) draft) two ∙ holds)
     ∙ ap (λ (n : ℕ). body_of (attributes_at words keys ++ patterns_in (from 1 (here words n))) (here words n) draft) two
     ∙ ap (λ (t : Meant). body_of (attributes_at words keys ++ patterns_in t) (here words (i + 2)) draft) (sym behind)
     ∙ ap (λ (so_far : List Attribute). body_of so_far (here words (i + 2)) draft) (sym all)
@@ -107,9 +109,9 @@ pub annotation_refused : (words : List Word) (keys : List ℕ) (i : ℕ) (p : Pl
     → (draft : Draft) → Refuses stopped (body_of (attributes_at words keys) (here words i) draft)
 annotation_refused words keys i p stopped annotated at refused draft = refuses_all stopped _ _
     (λ fault e. ap (λ (t : Meant). body_of (attributes_at words keys) t draft) annotated.sees.is
-      ∙ ap (λ (b : Bool). cond b (attributes_of (word_at words (i + 1)).place (here words (i + 1 + 1)) >> body_of (attributes_at words keys ++ patterns_in (from 1 (here words (i + 1 + 1)))) (here words (i + 1 + 1))) (made (plain annotated.behind)) draft) annotated.head
-      ∙ ap (then_from (λ (_ : Unit {0}). body_of (attributes_at words keys ++ patterns_in (from 1 (here words (i + 1 + 1)))) (here words (i + 1 + 1))))
-          (ap (λ (q : Place). attributes_of q (here words (i + 1 + 1)) draft) (sym at) ∙ ap (λ (n : ℕ). attributes_of p (here words n) draft) two ∙ e)) (refused draft)
+    ∙ ap (λ (b : Bool). cond b (attributes_of (word_at words (i + 1)).place (here words (i + 1 + 1)) >> body_of (attributes_at words keys ++ patterns_in (from 1 (here words (i + 1 + 1)))) (here words (i + 1 + 1))) (made (plain annotated.behind)) draft) annotated.head
+    ∙ ap (then_from (λ (_ : Unit {0}). body_of (attributes_at words keys ++ patterns_in (from 1 (here words (i + 1 + 1)))) (here words (i + 1 + 1))))
+    (ap (λ (q : Place). attributes_of q (here words (i + 1 + 1)) draft) (sym at) ∙ ap (λ (n : ℕ). attributes_of p (here words n) draft) two ∙ e)) (refused draft)
   where
     two : i + 1 + 1 ≡ i + 2
     two = omega arith
@@ -150,3 +152,46 @@ weighs_annotated words i annotated = omega (arith, ap (weight words) annotated.s
 pub weighs_binding : (words : List Word) (i name behind : ℕ) → SeesBinding words i name behind → weight words (here words behind) < weight words (here words i)
 unfolding weight
 weighs_binding words i name behind sees = omega (arith, ap (weight words) sees.is)
+
+-- a forall whose form is checked
+module _ (paren head : Place) (parts : Meant) (scope : Scope) where
+  after_bindings : Listed → Making Value
+  after_bindings listed = bound_forall paren head scope listed.inner (from 1 parts)
+
+  pub forall_number_refused : (stopped : Stop) → ((draft : Draft) → Refuses stopped (exactly 2 head parts draft)) → (draft : Draft) → Refuses stopped (checked_forall paren head parts scope draft)
+  unfolding after_bindings
+  forall_number_refused stopped refused draft = refuses_all stopped (exactly 2 head parts draft) (checked_forall paren head parts scope draft)
+      (λ fault e. ap (then_from (λ (_ : Unit {0}). some_bindings head parts >>= after_bindings)) e) (refused draft)
+
+  pub forall_bindings_refused : (stopped : Stop) → ((draft : Draft) → exactly 2 head parts draft ≡ Ok (tt {0}, draft)) → ((draft : Draft) → Refuses stopped (some_bindings head parts draft)) → (draft : Draft) → Refuses stopped (checked_forall paren head parts scope draft)
+  unfolding after_bindings
+  forall_bindings_refused stopped two refused draft = refuses_all stopped (some_bindings head parts draft) (checked_forall paren head parts scope draft)
+      (λ fault e. ap (then_from (λ (_ : Unit {0}). some_bindings head parts >>= after_bindings)) (two draft) ∙ ap (then_from after_bindings) e) (refused draft)
+
+  pub forall_means : (listed : Listed) (rest : Meant) (draft : Draft) → exactly 2 head parts draft ≡ Ok (tt {0}, draft) → some_bindings head parts draft ≡ Ok (listed, draft) → from 1 parts ≡ rest
+      → checked_forall paren head parts scope draft ≡ bound_forall paren head scope listed.inner rest draft
+  unfolding after_bindings
+  forall_means listed rest draft two found behind =
+      ap (then_from (λ (_ : Unit {0}). some_bindings head parts >>= after_bindings)) two ∙ ap (then_from after_bindings) found
+      ∙ ap (λ (t : Meant). bound_forall paren head scope listed.inner t draft) behind
+
+-- a forall whose bindings are read
+module _ (paren head : Place) (scope : Scope) (bindings trees : Meant) where
+  abbrev few : Making (Unit {0})
+  few = refused_binding refusal.TooManyVariables (from 32 bindings)
+
+  abbrev ends : List Bound → Making Value
+  ends variables = body_forall paren head scope variables trees
+
+  pub too_many : (stopped : Stop) → ((draft : Draft) → Refuses stopped (refused_binding refusal.TooManyVariables (from 32 bindings) draft)) → (draft : Draft) → Refuses stopped (bound_forall paren head scope bindings trees draft)
+  too_many stopped refused draft = refuses_all stopped (few draft) (bound_forall paren head scope bindings trees draft)
+      (λ fault e. ap (then_from (λ (_ : Unit {0}). variables_from scope.state 0 bindings >>= ends)) e) (refused draft)
+
+  pub variables_unread : (stopped : Stop) → ((draft : Draft) → refused_binding refusal.TooManyVariables (from 32 bindings) draft ≡ Ok (tt {0}, draft)) → ((draft : Draft) → Refuses stopped (variables_from scope.state 0 bindings draft))
+      → (draft : Draft) → Refuses stopped (bound_forall paren head scope bindings trees draft)
+  variables_unread stopped fits refused draft = refuses_all stopped (variables_from scope.state 0 bindings draft) (bound_forall paren head scope bindings trees draft)
+      (λ fault e. ap (then_from (λ (_ : Unit {0}). variables_from scope.state 0 bindings >>= ends)) (fits draft) ∙ ap (then_from ends) e) (refused draft)
+
+  pub variables_read : (variables : List Bound) (draft : Draft) → refused_binding refusal.TooManyVariables (from 32 bindings) draft ≡ Ok (tt {0}, draft) → variables_from scope.state 0 bindings draft ≡ Ok (variables, draft)
+      → bound_forall paren head scope bindings trees draft ≡ body_forall paren head scope variables trees draft
+  variables_read variables draft fits read = ap (then_from (λ (_ : Unit {0}). variables_from scope.state 0 bindings >>= ends)) fits ∙ ap (then_from ends) read

@@ -38,14 +38,14 @@ module _ (words : List Word) where
   -- an application gets the value of its next tree
   gets : (scope : Scope) (f : Frame) (called : ℕ) (head : Head) (args : List Arg) (at : Place) (rest : Meant) (first : Made)
       → then_from (λ (more : List Arg). applied f.paren f.head (word_at words called).text (named_by scope.state head) (args ++ more))
-          (then_from (λ (v : Value). values scope rest >>= λ (more : List Arg). made (record { place = at; value = v } ∷ more)) first)
-        ≡ then_from (λ (v : Value). applies words scope f called head (args ++ record { place = at; value = v } ∷ []) rest) first
+      (then_from (λ (v : Value). values scope rest >>= λ (more : List Arg). made (record { place = at; value = v } ∷ more)) first)
+      ≡ then_from (λ (v : Value). applies words scope f called head (args ++ record { place = at; value = v } ∷ []) rest) first
   gets scope f called head args at rest (Err fault) = refl
   gets scope f called head args at rest (Ok done) = by (values scope rest done.1)
     where
       by : (others : Result (List Arg × Draft) SyntaxFault)
-        → then_from (λ (more : List Arg). applied f.paren f.head (word_at words called).text (named_by scope.state head) (args ++ more))
-            (then_from (λ (more : List Arg). made (record { place = at; value = done.0 } ∷ more)) others)
+          → then_from (λ (more : List Arg). applied f.paren f.head (word_at words called).text (named_by scope.state head) (args ++ more))
+          (then_from (λ (more : List Arg). made (record { place = at; value = done.0 } ∷ more)) others)
           ≡ then_from (λ (more : List Arg). applied f.paren f.head (word_at words called).text (named_by scope.state head) ((args ++ record { place = at; value = done.0 } ∷ []) ++ more)) others
       by (Ok more) = ap (λ (all : List Arg). applied f.paren f.head (word_at words called).text (named_by scope.state head) all more.1) (sym (append_assoc args (record { place = at; value = done.0 } ∷ []) more.0))
       by (Err fault) = refl
@@ -97,7 +97,7 @@ module _ (words : List Word) where
   pub next_binding : (scope : Scope) (head : Place) (done : List Bound) (next body name behind : ℕ) (q : Word) (meaning : Meaning) (term : Meant) (draft : Draft)
       → here words next ≡ Group q meaning (Token (word_at words name) term) (here words behind)
       → binds words scope head done next body draft
-        ≡ then_from (λ (v : Value). binds words scope head (done ++ bind (word_at words name).text v ∷ []) behind body) (value (word_at words name).place scope term draft)
+      ≡ then_from (λ (v : Value). binds words scope head (done ++ bind (word_at words name).text v ∷ []) behind body) (value (word_at words name).place scope term draft)
   next_binding scope head done next body name behind q meaning term draft e =
       ap (λ (trees : Meant). then_from last (bound_values scope trees draft)) e ∙ first (value (word_at words name).place scope term draft)
     where
@@ -105,13 +105,13 @@ module _ (words : List Word) where
       last bound = value head (with_bound scope (done ++ bound)) (here words body)
 
       others : (v : Value) (r : Result (List Bound × Draft) SyntaxFault)
-        → then_from last (then_from (λ (bound : List Bound). made (bind (word_at words name).text v ∷ bound)) r)
+          → then_from last (then_from (λ (bound : List Bound). made (bind (word_at words name).text v ∷ bound)) r)
           ≡ then_from (λ (bound : List Bound). value head (with_bound scope ((done ++ bind (word_at words name).text v ∷ []) ++ bound)) (here words body)) r
       others v (Ok r) = ap (λ (bound : List Bound). value head (with_bound scope bound) (here words body) r.1) (sym (append_assoc done (bind (word_at words name).text v ∷ []) r.0))
       others v (Err fault) = refl
 
       first : (r : Made)
-        → then_from last (then_from (λ (v : Value). bound_values scope (here words behind) >>= λ (bound : List Bound). made (bind (word_at words name).text v ∷ bound)) r)
+          → then_from last (then_from (λ (v : Value). bound_values scope (here words behind) >>= λ (bound : List Bound). made (bind (word_at words name).text v ∷ bound)) r)
           ≡ then_from (λ (v : Value). binds words scope head (done ++ bind (word_at words name).text v ∷ []) behind body) r
       first (Ok r) = others r.0 (bound_values scope (here words behind) r.1)
       first (Err fault) = refl
@@ -140,17 +140,18 @@ module _ (words : List Word) (old new : List Frame) (bound : List Bound) (paren 
       → SeesBinding words next name behind
       → (state : State) (inside : Inside) (missing : Place) (draft : Draft)
       → GoesOn words state inside missing new bound draft (base_of (reverse old) bound) (1 + weight words (here words next) + weight words (here words body) + weight words (here words after) + load words (reverse old)) (step.At (name + 1))
-          (binds_in words old bound paren head after done.items next body state inside draft)
+      (binds_in words old bound paren head after done.items next body state inside draft)
   unfolding weight load base_of
   enters_binding name behind is sees state inside missing draft =
-    let f : Frame = record { paren = paren; head = head; after = after; work = Let name done behind body } in
-    let scope = scope_of state inside bound in
-    let top = pushed old new f is in
-    (list_begins words missing scope scope (reverse old) f (here words (name + 1)) (binds words scope head done.items next body draft) draft refl
-        (next_binding words scope head done.items next body name behind (word_at words next) _ (here words (name + 1)) draft sees.is)
-      ∙ sym (ap (λ (fs : List Frame). resume words missing scope fs (here words (name + 1)) draft) top),
-     rw (top, sees.is) (omega arith),
-     ap (λ (fs : List Frame). base_of fs bound) top)
+      let f : Frame = record { paren = paren; head = head; after = after; work = Let name done behind body } in
+      let scope = scope_of state inside bound in
+      let top = pushed old new f is in (
+        list_begins words missing scope scope (reverse old) f (here words (name + 1)) (binds words scope head done.items next body draft) draft refl
+            (next_binding words scope head done.items next body name behind (word_at words next) _ (here words (name + 1)) draft sees.is)
+            ∙ sym (ap (λ (fs : List Frame). resume words missing scope fs (here words (name + 1)) draft) top),
+        rw (top, sees.is) (omega arith),
+        ap (λ (fs : List Frame). base_of fs bound) top,
+      )
 
   back : (later : List Bound) (n : ℕ) → n ≡ length bound → later ≡ bound ++ done.items → take n later ≡ bound
   back later n count names = ap (take n) names ∙ ap (λ (k : ℕ). take k (bound ++ done.items)) count ∙ take-append_seam bound done.items
@@ -160,18 +161,19 @@ module _ (words : List Word) (old new : List Frame) (bound : List Bound) (paren 
       → is_binding (here words next) ≡ false
       → (state : State) (inside : Inside) (missing : Place) (draft : Draft)
       → GoesOn words state inside missing new later draft (base_of (reverse old) bound) (1 + weight words (here words next) + weight words (here words body) + weight words (here words after) + load words (reverse old)) (step.At body)
-          (binds_in words old bound paren head after done.items next body state inside draft)
+      (binds_in words old bound paren head after done.items next body state inside draft)
   unfolding weight load base_of
   enters_body later n count names is none state inside missing draft =
-    let f : Frame = record { paren = paren; head = head; after = after; work = Pass n } in
-    let scope = scope_of state inside bound in
-    let top = pushed old new f is in
-    (list_begins words missing scope (scope_of state inside later) (reverse old) f (here words body) (binds words scope head done.items next body draft) draft
-        (ap (scope_of state inside) (back later n count names))
-        (body_next words scope head done.items next body draft none ∙ ap (λ (all : List Bound). value head (scope_of state inside all) (here words body) draft) (sym names))
-      ∙ sym (ap (λ (fs : List Frame). resume words missing (scope_of state inside later) fs (here words body) draft) top),
-     rw top (omega arith),
-     ap (λ (fs : List Frame). base_of fs later) top ∙ ap (base_of (reverse old)) (back later n count names))
+      let f : Frame = record { paren = paren; head = head; after = after; work = Pass n } in
+      let scope = scope_of state inside bound in
+      let top = pushed old new f is in (
+        list_begins words missing scope (scope_of state inside later) (reverse old) f (here words body) (binds words scope head done.items next body draft) draft
+            (ap (scope_of state inside) (back later n count names))
+            (body_next words scope head done.items next body draft none ∙ ap (λ (all : List Bound). value head (scope_of state inside all) (here words body) draft) (sym names))
+            ∙ sym (ap (λ (fs : List Frame). resume words missing (scope_of state inside later) fs (here words body) draft) top),
+        rw top (omega arith),
+        ap (λ (fs : List Frame). base_of fs later) top ∙ ap (base_of (reverse old)) (back later n count names),
+      )
 
 -- the innermost of some lists has a value
 module _ (words : List Word) (old new : List Frame) (bound : List Bound) (paren head : Place) (after next : ℕ) (at : Place) (v : Value) where
@@ -184,39 +186,42 @@ module _ (words : List Word) (old new : List Frame) (bound : List Bound) (paren 
   pub puts_pass : (n : ℕ) (later : List Bound) → later ≡ take n bound → new ≡ old
       → Gives words (old ++ record { paren = paren; head = head; after = after; work = Pass n } ∷ []) bound new later next at v (Ok (given.Outer paren after))
   unfolding frame_of finish load base_of
-  puts_pass n later names same =
-    (λ state inside draft.
-       ap (λ (fs : List Frame). finish words (scope_of state inside bound) fs (here words next) at v draft) (top_of (Pass n))
-       ∙ ap (λ (all : List Bound). finish words (scope_of state inside all) (reverse old) (here words after) paren v draft) (sym names)
-       ∙ ap (λ (fs : List Frame). finish words (scope_of state inside later) (reverse fs) (here words after) paren v draft) (sym same),
-     rw same (omega (arith, length-append old (frame_of (Pass n) ∷ []))),
-     rw (same, top_of (Pass n), names) refl,
-     rw (same, top_of (Pass n)) (omega arith))
+  puts_pass n later names same = (
+    λ state inside draft.
+        ap (λ (fs : List Frame). finish words (scope_of state inside bound) fs (here words next) at v draft) (top_of (Pass n))
+        ∙ ap (λ (all : List Bound). finish words (scope_of state inside all) (reverse old) (here words after) paren v draft) (sym names)
+        ∙ ap (λ (fs : List Frame). finish words (scope_of state inside later) (reverse fs) (here words after) paren v draft) (sym same),
+    rw same (omega (arith, length-append old (frame_of (Pass n) ∷ []))),
+    rw (same, top_of (Pass n), names) refl,
+    rw (same, top_of (Pass n)) (omega arith),
+  )
 
   pub puts_apply : (called : ℕ) (name : Head) (args more : Vec Arg Global) → more.items ≡ args.items ++ record { place = at; value = v } ∷ []
       → new ≡ old ++ record { paren = paren; head = head; after = after; work = Apply called name more } ∷ []
       → Gives words (old ++ record { paren = paren; head = head; after = after; work = Apply called name args } ∷ []) bound new bound next at v (Ok (given.At next))
   unfolding frame_of finish resume load base_of
-  puts_apply called name args more got is state inside missing draft =
-    (ap (λ (fs : List Frame). finish words (scope_of state inside bound) fs (here words next) at v draft) (top_of (Apply called name args))
-       ∙ ap (λ (all : List Arg). then_from (λ (u : Value). finish words (scope_of state inside bound) (reverse old) (here words after) paren u) (applies words (scope_of state inside bound) (frame_of (Apply called name args)) called name all (here words next) draft)) (sym got)
-       ∙ ap (λ (fs : List Frame). resume words missing (scope_of state inside bound) fs (here words next) draft) (sym (pushed old new (frame_of (Apply called name more)) is)),
-     rw (pushed old new (frame_of (Apply called name more)) is, top_of (Apply called name args)) (omega arith),
-     rw (pushed old new (frame_of (Apply called name more)) is, top_of (Apply called name args)) refl)
+  puts_apply called name args more got is state inside missing draft = (
+    ap (λ (fs : List Frame). finish words (scope_of state inside bound) fs (here words next) at v draft) (top_of (Apply called name args))
+        ∙ ap (λ (all : List Arg). then_from (λ (u : Value). finish words (scope_of state inside bound) (reverse old) (here words after) paren u) (applies words (scope_of state inside bound) (frame_of (Apply called name args)) called name all (here words next) draft)) (sym got)
+        ∙ ap (λ (fs : List Frame). resume words missing (scope_of state inside bound) fs (here words next) draft) (sym (pushed old new (frame_of (Apply called name more)) is)),
+    rw (pushed old new (frame_of (Apply called name more)) is, top_of (Apply called name args)) (omega arith),
+    rw (pushed old new (frame_of (Apply called name more)) is, top_of (Apply called name args)) refl,
+  )
 
   pub puts_let : (later : List Bound) (name further body i : ℕ) (done more : Vec Bound Global) (text : List ℕ) → text ≡ (word_at words name).text → more.items ≡ done.items ++ bind text v ∷ []
       → ((state : State) (inside : Inside) (missing : Place) (draft : Draft)
-          → GoesOn words state inside missing new later draft (base_of (reverse old) bound) (1 + weight words (here words further) + weight words (here words body) + weight words (here words after) + load words (reverse old)) (step.At i)
-              (binds_in words old bound paren head after more.items further body state inside draft))
+      → GoesOn words state inside missing new later draft (base_of (reverse old) bound) (1 + weight words (here words further) + weight words (here words body) + weight words (here words after) + load words (reverse old)) (step.At i)
+      (binds_in words old bound paren head after more.items further body state inside draft))
       → Gives words (old ++ record { paren = paren; head = head; after = after; work = Let name done further body } ∷ []) bound new later next at v (Ok (given.At i))
   unfolding frame_of finish load base_of
   puts_let later name further body i done more text called got goes state inside missing draft =
-    let g = goes state inside missing draft in
-    (ap (λ (fs : List Frame). finish words (scope_of state inside bound) fs (here words next) at v draft) (top_of (Let name done further body))
-       ∙ ap (λ (all : List Bound). binds_in words old bound paren head after all further body state inside draft) (sym (got ∙ ap (λ (t : List ℕ). done.items ++ bind t v ∷ []) called))
-       ∙ g.0,
-     rw (top_of (Let name done further body)) (omega (arith, g.1)),
-     rw (top_of (Let name done further body)) g.2)
+      let g = goes state inside missing draft in (
+        ap (λ (fs : List Frame). finish words (scope_of state inside bound) fs (here words next) at v draft) (top_of (Let name done further body))
+            ∙ ap (λ (all : List Bound). binds_in words old bound paren head after all further body state inside draft) (sym (got ∙ ap (λ (t : List ℕ). done.items ++ bind t v ∷ []) called))
+            ∙ g.0,
+        rw (top_of (Let name done further body)) (omega (arith, g.1)),
+        rw (top_of (Let name done further body)) g.2,
+      )
 
 -- the same, of a frame with that work
 pub by_work : (words : List Word) (old new : List Frame) (bound later : List Bound) (f : Frame) (work : Work) (next : ℕ) (at : Place) (v : Value) (r : Result Given Memory) → f.work ≡ work

@@ -63,31 +63,34 @@ module _ (words : List Word) (i after : ℕ) (state : State) (inside : Inside) (
 
   pub opens_let : (body j : ℕ) (later none : List Bound) → none ≡ [] → ((draft : Draft) → exactly 2 head (here words (i + 2)) draft ≡ Ok (tt {0}, draft)) → HasBindings words (i + 2) head (Ok body)
       → ((state : State) (inside : Inside) (missing : Place) (draft : Draft) → GoesOn words state inside missing new later draft (base_of (reverse old) bound)
-          (1 + weight words (here words (i + 2 + 1)) + weight words (here words body) + weight words (here words after) + load words (reverse old)) (step.At j) (binds_in words old bound paren head after none (i + 2 + 1) body state inside draft))
+      (1 + weight words (here words (i + 2 + 1)) + weight words (here words body) + weight words (here words after) + load words (reverse old)) (step.At j) (binds_in words old bound paren head after none (i + 2 + 1) body state inside draft))
       → Opens words state inside old bound new later i after (3 + work_in words old (i + 2) after) (let_value (word_at words (i + 1)).place (here words (i + 2))) (Ok (opened.At j))
   unfolding weight
   opens_let body j later none empty two has goes missing draft =
-    let g = subst (λ (ns : List Bound). GoesOn words state inside missing new later draft (base_of (reverse old) bound) (1 + weight words (here words (i + 2 + 1)) + weight words (here words body) + weight words (here words after) + load words (reverse old)) (step.At j) (binds_in words old bound paren head after ns (i + 2 + 1) body state inside draft)) empty (goes state inside missing draft) in
-    let w : weight words (here words (i + 2)) ≡ 3 + weight words (here words (i + 2 + 1)) + weight words (here words body) = ap (weight words) has.0.is in
-    rw (← at_paren, ← at_head)
-      (ap (then_from (λ (v : Value). finish words (scope_of state inside bound) (reverse old) (here words after) paren v)) (let_means body (scope_of state inside bound) draft (two draft) (has.1 draft) has.0) ∙ g.0,
-       omega (arith, g.1, w), g.2)
+      let g = subst (λ (ns : List Bound). GoesOn words state inside missing new later draft (base_of (reverse old) bound) (1 + weight words (here words (i + 2 + 1)) + weight words (here words body) + weight words (here words after) + load words (reverse old)) (step.At j) (binds_in words old bound paren head after ns (i + 2 + 1) body state inside draft)) empty (goes state inside missing draft) in
+      let w : weight words (here words (i + 2)) ≡ 3 + weight words (here words (i + 2 + 1)) + weight words (here words body) = ap (weight words) has.0.is in
+      rw (← at_paren, ← at_head) (
+        ap (then_from (λ (v : Value). finish words (scope_of state inside bound) (reverse old) (here words after) paren v)) (let_means body (scope_of state inside bound) draft (two draft) (has.1 draft) has.0) ∙ g.0,
+        omega (arith, g.1, w),
+        g.2,
+      )
 
   pub opens_annotated : (n : ℕ) → n ≡ length bound → ((draft : Draft) → attributes_of head (here words (i + 2)) draft ≡ Ok (tt {0}, draft))
       → new ≡ old ++ record { paren = paren; head = head; after = after; work = Pass n } ∷ []
       → Opens words state inside old bound new bound i after (3 + work_in words old (i + 2) after) (annotated_value (word_at words (i + 1)).place (here words (i + 2))) (Ok (opened.At (i + 2)))
   unfolding weight load base_of
   opens_annotated n count attributes is missing draft =
-    let f : Frame = record { paren = paren; head = head; after = after; work = Pass n } in
-    let scope = scope_of state inside bound in
-    let top = pushed old new f is in
-    let all : take n bound ≡ bound = ap (λ (k : ℕ). take k bound) count ∙ take-length bound in
-    rw (← at_paren, ← at_head)
-      (list_begins words missing scope scope (reverse old) f (here words (i + 2)) (annotated_value head (here words (i + 2)) scope draft) draft (ap (scope_of state inside) all)
-          (ap (then_from (λ (_ : Unit {0}). value head scope (here words (i + 2)))) (attributes draft))
-        ∙ sym (ap (λ (fs : List Frame). resume words missing scope fs (here words (i + 2)) draft) top),
-       rw top (omega arith),
-       rw top (ap (base_of (reverse old)) all))
+      let f : Frame = record { paren = paren; head = head; after = after; work = Pass n } in
+      let scope = scope_of state inside bound in
+      let top = pushed old new f is in
+      let all : take n bound ≡ bound = ap (λ (k : ℕ). take k bound) count ∙ take-length bound in
+      rw (← at_paren, ← at_head) (
+        list_begins words missing scope scope (reverse old) f (here words (i + 2)) (annotated_value head (here words (i + 2)) scope draft) draft (ap (scope_of state inside) all)
+            (ap (then_from (λ (_ : Unit {0}). value head scope (here words (i + 2)))) (attributes draft))
+            ∙ sym (ap (λ (fs : List Frame). resume words missing scope fs (here words (i + 2)) draft) top),
+        rw top (omega arith),
+        rw top (ap (base_of (reverse old)) all),
+      )
 
   known_value : (w : Word) (name : Named) (parts : Meant) (scope : Scope) (draft : Draft) → is_known name ≡ true
       → named_value paren w name parts scope draft ≡ then_from (λ (args : List Arg). applied paren w.place w.text name args) (values scope parts draft)
@@ -102,18 +105,19 @@ module _ (words : List Word) (i after : ℕ) (state : State) (inside : Inside) (
       → Opens words state inside old bound new bound i after (3 + work_in words old (i + 2) after) (form_value (word_at words i).place (word_at words (i + 1)) (here words (i + 2)) form.Application) (Ok (opened.At (i + 2)))
   unfolding weight load base_of
   opens_application called args free stands known none is missing draft =
-    let f : Frame = record { paren = paren; head = head; after = after; work = Apply (i + 1) called args } in
-    let w = word_at words (i + 1) in
-    let scope = scope_of state inside bound in
-    let top = pushed old new f is in
-    rw (← at_paren, free)
-      (list_begins words missing scope scope (reverse old) f (here words (i + 2)) (named_value paren w (named state w.text) (here words (i + 2)) scope draft) draft refl
-          (ap (λ (h : Head). named_value paren w (named_by state h) (here words (i + 2)) scope draft) (sym stands) ∙ known_value w (named_by state called) (here words (i + 2)) scope draft known
+      let f : Frame = record { paren = paren; head = head; after = after; work = Apply (i + 1) called args } in
+      let w = word_at words (i + 1) in
+      let scope = scope_of state inside bound in
+      let top = pushed old new f is in
+      rw (← at_paren, free) (
+        list_begins words missing scope scope (reverse old) f (here words (i + 2)) (named_value paren w (named state w.text) (here words (i + 2)) scope draft) draft refl
+            (ap (λ (h : Head). named_value paren w (named_by state h) (here words (i + 2)) scope draft) (sym stands) ∙ known_value w (named_by state called) (here words (i + 2)) scope draft known
             ∙ ap (λ (at : Place). then_from (λ (more : List Arg). applied paren at w.text (named_by state called) more) (values scope (here words (i + 2)) draft)) (sym at_head)
             ∙ ap (λ (all : List Arg). then_from (λ (more : List Arg). applied paren head w.text (named_by state called) (all ++ more)) (values scope (here words (i + 2)) draft)) (sym none))
-        ∙ sym (ap (λ (fs : List Frame). resume words missing scope fs (here words (i + 2)) draft) top),
-       rw top (omega arith),
-       rw top refl)
+            ∙ sym (ap (λ (fs : List Frame). resume words missing scope fs (here words (i + 2)) draft) top),
+        rw top (omega arith),
+        rw top refl,
+      )
 
 -- meanings that make the same are the same
 same_meaning : (a b : Meaning) → ((scope : Scope) (draft : Draft) → a scope draft ≡ b scope draft) → a ≡ b
@@ -127,8 +131,8 @@ pub opens_symbol : (words : List Word) (state : State) (inside : Inside) (old : 
 unfolding weight list_value
 opens_symbol words state inside old bound new later i after r is symbol opens =
     opens_as words state inside old bound new later i after (2 + work_in words old (i + 1) after) (form_value (word_at words i).place (word_at words (i + 1)) (here words (i + 2)) (form_of (word_at words (i + 1)).text)) (list_value (word_at words i) (here words (i + 1))) r
-      (same_meaning _ _ same)
-      (subst (λ (n : ℕ). Opens words state inside old bound new later i after n (form_value (word_at words i).place (word_at words (i + 1)) (here words (i + 2)) (form_of (word_at words (i + 1)).text)) r) less opens)
+    (same_meaning _ _ same)
+    (subst (λ (n : ℕ). Opens words state inside old bound new later i after n (form_value (word_at words i).place (word_at words (i + 1)) (here words (i + 2)) (form_of (word_at words (i + 1)).text)) r) less opens)
   where
     same : (scope : Scope) (draft : Draft) → list_value (word_at words i) (here words (i + 1)) scope draft ≡ form_value (word_at words i).place (word_at words (i + 1)) (here words (i + 2)) (form_of (word_at words (i + 1)).text) scope draft
     same scope draft = rw (is, symbol) refl

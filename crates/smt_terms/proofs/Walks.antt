@@ -45,11 +45,11 @@ module _ (words : List Word) (state : State) (inside : Inside) (missing : Place)
       → GivesOn words popped bound new later next at v (Ok n)
       → Progress words state inside missing frames bound new later draft after_draft i n
   gave most next at v (step.At j) popped less base gives goes =
-    let g = goes state inside missing after_draft in
-    record { most = work_of words popped next; less = less; goes = (gives ∙ g.0, g.1, g.2 ∙ base) }
+      let g = goes state inside missing after_draft in
+      record { most = work_of words popped next; less = less; goes = (gives ∙ g.0, g.1, g.2 ∙ base) }
   gave most next at v (step.Whole u) popped less base gives goes =
-    let g = goes state inside missing after_draft in
-    record { most = work_of words popped next; less = less; goes = (gives ∙ g.0, g.1 ∙ base) }
+      let g = goes state inside missing after_draft in
+      record { most = work_of words popped next; less = less; goes = (gives ∙ g.0, g.1 ∙ base) }
 
 module _ (words : List Word) (state : State) (inside : Inside) (missing : Place) (frames : List Frame) (bound : List Bound) (draft : Draft) (i : ℕ) where
   -- a token
@@ -72,7 +72,7 @@ module _ (words : List Word) (state : State) (inside : Inside) (missing : Place)
   -- a list
   pub at_list_here : (after : ℕ) → SeesList words i after
       → rest_of words state inside missing frames bound i draft
-        ≡ then_from (λ (u : Value). finish words (scope_of state inside bound) (reverse frames) (here words after) (word_at words i).place u) (list_value (word_at words i) (here words (i + 1)) (scope_of state inside bound) draft)
+      ≡ then_from (λ (u : Value). finish words (scope_of state inside bound) (reverse frames) (here words after) (word_at words i).place u) (list_value (word_at words i) (here words (i + 1)) (scope_of state inside bound) draft)
   at_list_here after sees = ap (λ (trees : Meant). resume words missing (scope_of state inside bound) (reverse frames) trees draft) sees.is
       ∙ at_list words missing (scope_of state inside bound) (reverse frames) (word_at words i) (list_value (word_at words i) (here words (i + 1))) (here words (i + 1)) (here words after) draft
 
@@ -110,10 +110,10 @@ module _ (words : List Word) (state : State) (inside : Inside) (missing : Place)
       → Opens words state inside frames bound new later i after (2 + work_in words frames (i + 1) after) (list_value (word_at words i) (here words (i + 1))) (Ok o)
       → Steps words state inside missing frames bound new later draft draft i (Ok s)
   list_steps after new later (opened.At j) s sees is opens =
-    let g = opens missing draft in
-    rw is (record { most = 2 + work_in words frames (i + 1) after; less = list_less after sees; goes = (at_list_here after sees ∙ g.0, g.1, g.2) })
+      let g = opens missing draft in
+      rw is (record { most = 2 + work_in words frames (i + 1) after; less = list_less after sees; goes = (at_list_here after sees ∙ g.0, g.1, g.2) })
   list_steps after new later opened.Universal s sees is opens =
-    rw is (record { same_place = refl; same_frames = opens.1; same_bound = opens.2; sees = sees; universal = opens.0 }, refl)
+      rw is (record { same_place = refl; same_frames = opens.1; same_bound = opens.2; sees = sees; universal = opens.0 }, refl)
 
   -- the end of a list
   module _ (ends : here words i ≡ End) where

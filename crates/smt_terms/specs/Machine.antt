@@ -174,7 +174,7 @@ pub record IsUniversal (inside : Inside) (meaning : Meaning) (paren head : Place
 abbrev pub Opens : List Word → State → Inside → List Frame → List Bound → List Frame → List Bound → (i after most : ℕ) → Meaning → Result Opened Stop → Type 0
 Opens words state inside frames bound new_frames new_bound i after most meaning (Ok (opened.At j)) =
     (missing : Place) (draft : Draft) → GoesOn words state inside missing new_frames new_bound draft (base_of (reverse frames) bound) most (step.At j)
-      (then_from (λ (v : Value). finish words (scope_of state inside bound) (reverse frames) (here words after) (word_at words i).place v) (meaning (scope_of state inside bound) draft))
+    (then_from (λ (v : Value). finish words (scope_of state inside bound) (reverse frames) (here words after) (word_at words i).place v) (meaning (scope_of state inside bound) draft))
 Opens words state inside frames bound new_frames new_bound i after most meaning (Ok opened.Universal) =
     IsUniversal inside meaning (word_at words i).place (word_at words (i + 1)).place (here words (i + 2)) × (new_frames ≡ frames) × (new_bound ≡ bound)
 Opens words state inside frames bound new_frames new_bound i after most meaning (Err stop) = (draft : Draft) → Refuses stop (meaning (scope_of state inside bound) draft)

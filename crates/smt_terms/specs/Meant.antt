@@ -125,9 +125,9 @@ no_binding refusal trees = made tt
 abbrev pub attributes_after : Bool → Meant → Making (Unit {0})
 attributes_after valued End = made tt
 attributes_after valued (Token word trees) = cond (is_keyword word.kind) (attributes_after true trees)
-  (do
-    want (valued && not (is_wide word)) BadForm word.place
-    attributes_after false trees)
+    (do
+      want (valued && not (is_wide word)) BadForm word.place
+      attributes_after false trees)
 attributes_after valued (Group paren meaning inner trees) = do
   want valued BadForm paren.place
   attributes_after false trees

@@ -64,7 +64,7 @@ kept_of rows roots = kept_after (reached_from rows roots) (record { numbers = []
 -- The trigger of these roots, with so many variables. It is numbered where the formula is entered.
 abbrev pub trigger_of : ℕ → List ShapeRow → List ℕ → Trigger
 trigger_of variables rows roots = let kept = kept_of rows roots in
-  record { forall = 0; place = 0; variables = variables; rows = kept.rows; roots = numbered kept.numbers roots }
+    record { forall = 0; place = 0; variables = variables; rows = kept.rows; roots = numbered kept.numbers roots }
 
 abbrev pub is_variable : ℕ → PatternRow → Bool
 is_variable index (pattern.Var i) = i == index

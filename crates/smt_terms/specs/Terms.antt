@@ -49,11 +49,12 @@ name_value scope word None = free_value word (named scope.state word.text)
 
 unfoldable pub token_value : Scope → Word → Making Value
 token_value scope word = elim word.kind [
-    Symbol ↦ name_value scope word (bound_as scope.bound word.text)
+  | Symbol ↦ name_value scope word (bound_as scope.bound word.text)
   | Keyword ↦ bad_form word.place
   | Left ↦ bad_form word.place
   | Right ↦ bad_form word.place
-  | _ ↦ not_in_profile word.place ]
+  | _ ↦ not_in_profile word.place
+]
 
 -- Trees.
 -- the value of the first tree
@@ -149,7 +150,7 @@ is_annotation word = is_symbol word.kind && bytes_eq word.text (codes "!")
 
 abbrev pub body_of : List Attribute → Meant → Making Body
 body_of so_far (Group paren meaning (Token head parts) trees) =
-  cond (is_annotation head)
+    cond (is_annotation head)
     (do
       attributes_of head.place parts
       body_of (so_far ++ patterns_in (from 1 parts)) parts)
@@ -249,15 +250,30 @@ quantified paren head scope variables body = do
   n ← node paren (Forall index)
   made (Formula n None)
 
+-- a forall of these variables: the attributes round its body, and then the body and the triggers
+abbrev pub body_forall : (paren head : Place) → Scope → List Bound → Meant → Making Value
+body_forall paren head scope variables trees = do
+  body ← body_of [] trees
+  quantified paren head scope variables body
+
+-- a forall whose bindings have the right form: at most 32 variables, their sorts, and then its body and its triggers
+abbrev pub bound_forall : (paren head : Place) → Scope → (bindings body : Meant) → Making Value
+bound_forall paren head scope bindings trees = do
+  no_binding refusal.TooManyVariables (from 32 bindings)
+  variables ← variables_from scope.state 0 bindings
+  body_forall paren head scope variables trees
+
+-- a forall that may stand there
+abbrev pub checked_forall : (paren head : Place) → Meant → Meaning
+checked_forall paren head parts scope = do
+  exactly 2 head parts
+  listed ← some_bindings head parts
+  bound_forall paren head scope listed.inner (from 1 parts)
+
 abbrev pub forall_value : (paren head : Place) → Meant → Meaning
 forall_value paren head parts scope = do
   want (not (scope.in_forall || scope.in_definition)) refusal.NotInProfile head
-  exactly 2 head parts
-  listed ← some_bindings head parts
-  no_binding refusal.TooManyVariables (from 32 listed.inner)
-  variables ← variables_from scope.state 0 listed.inner
-  body ← body_of [] (from 1 parts)
-  quantified paren head scope variables body
+  checked_forall paren head parts scope
 
 -- Form 5: a name.
 abbrev pub named_value : Place → Word → Named → Meant → Meaning
@@ -273,10 +289,10 @@ unbound_value paren head parts None scope = named_value paren head (named scope.
 -- what a head makes of a list
 unfoldable pub form_of : List ℕ → Form
 form_of name =
-  if bytes_eq name (codes "let") then Let else
-  if bytes_eq name (codes "!") then Annotated else
-  if bytes_eq name (codes "forall") then Universal else
-  if is_reserved name then Foreign else Application
+    if bytes_eq name (codes "let") then Let else
+    if bytes_eq name (codes "!") then Annotated else
+    if bytes_eq name (codes "forall") then Universal else
+    if is_reserved name then Foreign else Application
 
 abbrev pub form_value : Place → Word → Meant → Form → Meaning
 form_value paren head parts Let scope = let_value head.place parts scope

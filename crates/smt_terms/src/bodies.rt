@@ -149,12 +149,7 @@ pub(crate) struct Body {
 }
 
 /// A list with attributes comes next: they are checked, and the keywords of their triggers are put last.
-fn pass_annotation(
-    alloc: Global,
-    patterns: &mut Vec<u32>,
-    tree: &Tree,
-    i: u32,
-) -> Result<(), Stop>
+fn pass_annotation(alloc: Global, patterns: &mut Vec<u32>, tree: &Tree, i: u32) -> Result<(), Stop>
     requires { IsAnnotated tree.now i }
     ensures { PassesAnnotation tree.now patterns.old.items patterns.new.items i result }
 {

@@ -84,7 +84,17 @@ pub fn elaborate_term(
     let mut frames = Vec::new(alloc);
     let mut i = at;
     loop {
-        match advance(alloc, draft, state, tree, missing, &mut frames, bound, inside, i) {
+        match advance(
+            alloc,
+            draft,
+            state,
+            tree,
+            missing,
+            &mut frames,
+            bound,
+            inside,
+            i,
+        ) {
             Err(stop) => return Err(stop),
             Ok(Next::Whole(value)) => return Ok(value),
             Ok(Next::At(next)) => i = next,

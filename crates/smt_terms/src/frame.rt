@@ -21,7 +21,9 @@ pub enum Work {
         body: u32,
     },
     /// A list whose value is that of the tree under way, and how many names are bound round it.
-    Pass { bound: usize },
+    Pass {
+        bound: usize,
+    },
 }
 
 /// An open list: the places of its parenthesis and its head, the token behind it, and what it goes on with.

@@ -14,6 +14,8 @@ mod opening;
 mod tokens;
 mod walking;
 
-pub use cursor::{Binding, Seen, behind_one, behind_some, binding_at, kind_at, look, place_at, text_at};
+pub use cursor::{
+    Binding, Seen, behind_one, behind_some, binding_at, kind_at, look, place_at, text_at,
+};
 pub use elaborate::elaborate_term;
 pub use frame::Inside;

@@ -146,12 +146,7 @@ fn open_application(
 }
 
 /// A forall begins: it stands outside foralls and definitions.
-fn open_universal(
-    alloc: Global,
-    tree: &Tree,
-    inside: Inside,
-    i: u32,
-) -> Result<Opened, Stop>
+fn open_universal(alloc: Global, tree: &Tree, inside: Inside, i: u32) -> Result<Opened, Stop>
     requires { SeesToken tree.now (i + 1) }
     ensures { OpensForall tree.now inside i result }
 {

@@ -87,7 +87,14 @@ fn close(
             Err(stop) => Err(stop),
             Ok(value) => {
                 let place = frame.paren;
-                match give(alloc, tree, frames, bound, frame.after, Arg { place, value }) {
+                match give(
+                    alloc,
+                    tree,
+                    frames,
+                    bound,
+                    frame.after,
+                    Arg { place, value },
+                ) {
                     Err(_) => Err(Stop::Memory),
                     Ok(next) => Ok(step_to(next)),
                 }

@@ -10,6 +10,6 @@ pub returns-in-Token : goal.returns-in-Token
 returns-in-Token c draft =
     let w = word_at c.args.tree.now c.args.i in
     makes_as c.other_sort_of_token.result draft draft (other_sort c.args.state.now c.args.missing (here c.args.tree.now c.args.i)) (other_sort_of_token c.args.state.now (word_of c.kind_at.result c.place_at-in-Token.result c.text_at.result.now))
-      (ap (λ (t : Meant). other_sort c.args.state.now c.args.missing t draft) c.in-Token.ensures.is
-        ∙ ap (λ (x : Word). other_sort_of_token c.args.state.now x draft) (sym (same_word w c.kind_at.result c.place_at-in-Token.result c.text_at.result.now c.kind_at.ensures c.place_at-in-Token.ensures c.text_at.ensures)))
-      (c.other_sort_of_token.ensures draft)
+    (ap (λ (t : Meant). other_sort c.args.state.now c.args.missing t draft) c.in-Token.ensures.is
+    ∙ ap (λ (x : Word). other_sort_of_token c.args.state.now x draft) (sym (same_word w c.kind_at.result c.place_at-in-Token.result c.text_at.result.now c.kind_at.ensures c.place_at-in-Token.ensures c.text_at.ensures)))
+    (c.other_sort_of_token.ensures draft)

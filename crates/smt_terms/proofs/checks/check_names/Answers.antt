@@ -8,7 +8,7 @@ use Rattle.smt_terms.proofs.checks.check_names.Goals as goal
 pub returns-in-Err : goal.returns-in-Err
 returns-in-Err c draft = binding_refused c.in-Err.stop c.loop-names.names.items (word_at c.args.tree.now c.loop-names.at) _ (here c.args.tree.now (c.loop-names.at + 1)) (here c.args.tree.now c.loop-names.at) (here c.args.tree.now c.in-List.after) c.in-List.ensures.is
     (refuses_as c.in-Err.stop (binding_name c.as_slice.result.now (word_at c.args.tree.now c.loop-names.at) (here c.args.tree.now (c.loop-names.at + 1))) (binding_name c.loop-names.names.items (word_at c.args.tree.now c.loop-names.at) (here c.args.tree.now (c.loop-names.at + 1)))
-      (λ d. ap (λ (ns : List (List ℕ)). binding_name ns (word_at c.args.tree.now c.loop-names.at) (here c.args.tree.now (c.loop-names.at + 1)) d) (sym c.as_slice.ensures.value)) c.in-Err.ensures)
+    (λ d. ap (λ (ns : List (List ℕ)). binding_name ns (word_at c.args.tree.now c.loop-names.at) (here c.args.tree.now (c.loop-names.at + 1)) d) (sym c.as_slice.ensures.value)) c.in-Err.ensures)
     (bindings_after _ (here c.args.tree.now c.args.i)) (λ d. sym (c.loop-names.invariant d)) draft
 
 pub loop-names-smaller : goal.loop-names-smaller

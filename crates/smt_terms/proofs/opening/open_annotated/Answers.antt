@@ -13,8 +13,8 @@ returns-in-Err c state inside =
     let parts = here c.args.tree.now (c.args.i + 2) in
     let scope = scope_of state inside c.args.bound.now in
     refuses_as c.in-Err.stop (annotated_value c.place_at-head.result parts scope) (annotated_value (word_at c.args.tree.now (c.args.i + 1)).place parts scope)
-      (λ draft. ap (λ (p : Place). annotated_value p parts scope draft) (sym c.place_at-head.ensures))
-      (refuses_first c.in-Err.stop (attributes_of c.place_at-head.result parts) (λ _. value c.place_at-head.result scope parts) c.in-Err.ensures)
+    (λ draft. ap (λ (p : Place). annotated_value p parts scope draft) (sym c.place_at-head.ensures))
+    (refuses_first c.in-Err.stop (attributes_of c.place_at-head.result parts) (λ _. value c.place_at-head.result scope parts) c.in-Err.ensures)
 
 pub returns-in_ok-push-in-Ok : goal.returns-in_ok-push-in-Ok
 returns-in_ok-push-in-Ok c state inside = opens_annotated c.args.tree.now c.args.i c.args.after state inside c.args.frames.now.items c.push.new.self.items c.args.bound.now c.place_at.result c.place_at-head.result c.place_at.ensures c.place_at-head.ensures

@@ -13,16 +13,16 @@ returns-in-Err c state inside =
     let parts = here c.args.tree.now (c.args.i + 2) in
     let scope = scope_of state inside c.args.bound.now in
     refuses_as c.in-Err.stop (let_value c.place_at-head.result parts scope) (let_value (word_at c.args.tree.now (c.args.i + 1)).place parts scope)
-      (λ draft. ap (λ (p : Place). let_value p parts scope draft) (sym c.place_at-head.ensures))
-      (let_refused_number c.in-Err.stop c.place_at-head.result parts scope c.in-Err.ensures)
+    (λ draft. ap (λ (p : Place). let_value p parts scope draft) (sym c.place_at-head.ensures))
+    (let_refused_number c.in-Err.stop c.place_at-head.result parts scope c.in-Err.ensures)
 
 pub returns-in-Err-check_bindings : goal.returns-in-Err-check_bindings
 returns-in-Err-check_bindings c state inside =
     let parts = here c.args.tree.now (c.args.i + 2) in
     let scope = scope_of state inside c.args.bound.now in
     refuses_as c.in-Err-check_bindings.stop (let_value c.place_at-head.result parts scope) (let_value (word_at c.args.tree.now (c.args.i + 1)).place parts scope)
-      (λ draft. ap (λ (p : Place). let_value p parts scope draft) (sym c.place_at-head.ensures))
-      (let_refused_bindings c.in-Err-check_bindings.stop c.place_at-head.result parts scope c.in-Ok.ensures c.in-Err-check_bindings.ensures)
+    (λ draft. ap (λ (p : Place). let_value p parts scope draft) (sym c.place_at-head.ensures))
+    (let_refused_bindings c.in-Err-check_bindings.stop c.place_at-head.result parts scope c.in-Ok.ensures c.in-Err-check_bindings.ensures)
 
 pub returns-in-Ok-enter_binding : goal.returns-in-Ok-enter_binding
 returns-in-Ok-enter_binding c state inside = opens_let c.args.tree.now c.args.i c.args.after state inside c.args.frames.now.items c.enter_binding.new.frames.items c.args.bound.now c.place_at.result c.place_at-head.result c.place_at.ensures c.place_at-head.ensures

@@ -19,7 +19,7 @@ returns-in-List c draft = refuses_at c.at-in-List.result refusal.NotInProfile c.
 pub returns-else-is_symbol : goal.returns-else-is_symbol
 returns-else-is_symbol c draft = refuses_at c.at-else-is_symbol.result refusal.BadForm c.place_at-else-is_symbol.result (word_at c.args.tree.now (c.args.i + 1)).place _ c.at-else-is_symbol.ensures c.place_at-else-is_symbol.ensures
     (no_symbol (word_at c.args.tree.now c.args.i) (here c.args.tree.now (c.args.i + 1)) (scope_of c.args.state.now c.args.inside c.args.bound.now) draft (word_at c.args.tree.now (c.args.i + 1)) _ c.in-Token.ensures.is
-      (ap is_symbol (sym c.kind_at.ensures) ∙ sym c.is_symbol.ensures ∙ c.if-is_symbol.false))
+    (ap is_symbol (sym c.kind_at.ensures) ∙ sym c.is_symbol.ensures ∙ c.if-is_symbol.false))
 
 pub returns-then-is_symbol : goal.returns-then-is_symbol
 returns-then-is_symbol c = opens_symbol c.args.tree.now c.args.state.now c.args.inside c.args.frames.now.items c.args.bound.now c.open_form.new.frames.items c.open_form.new.bound c.args.i c.args.after c.open_form.result

@@ -10,8 +10,8 @@ returns-in-Err c missing = token_refused c.args.tree.now c.args.state.now c.args
 pub returns-in-Ok-give : goal.returns-in-Ok-give
 returns-in-Ok-give c missing =
     steps_on c.args.tree.now c.args.state.now c.args.inside missing c.args.frames.now.items c.args.bound.now c.give.new.frames.items c.give.new.bound c.args.draft.now c.put_token.new.draft c.args.i c.in-Ok-give.next c.step_to.result c.step_to.ensures
-      (gave c.args.tree.now c.args.state.now c.args.inside missing c.args.frames.now.items c.args.bound.now c.give.new.frames.items c.give.new.bound c.args.draft.now c.put_token.new.draft c.args.i 0 (c.args.i + 1) c.place_at-place.result c.in-Ok.value c.in-Ok-give.next c.args.frames.now.items
-        (token_less c.args.tree.now c.args.state.now c.args.inside missing c.args.frames.now.items c.args.bound.now c.args.draft.now c.args.i c.requires) refl
-        (token_gives c.args.tree.now c.args.state.now c.args.inside missing c.args.frames.now.items c.args.bound.now c.args.draft.now c.args.i c.in-Ok.value c.put_token.new.draft c.requires c.in-Ok.ensures
-          ∙ ap (λ (at : Place). given_to c.args.tree.now c.args.state.now c.args.inside c.args.frames.now.items c.args.bound.now (c.args.i + 1) at c.in-Ok.value c.put_token.new.draft) (sym c.place_at-place.ensures))
-        c.in-Ok-give.ensures)
+    (gave c.args.tree.now c.args.state.now c.args.inside missing c.args.frames.now.items c.args.bound.now c.give.new.frames.items c.give.new.bound c.args.draft.now c.put_token.new.draft c.args.i 0 (c.args.i + 1) c.place_at-place.result c.in-Ok.value c.in-Ok-give.next c.args.frames.now.items
+    (token_less c.args.tree.now c.args.state.now c.args.inside missing c.args.frames.now.items c.args.bound.now c.args.draft.now c.args.i c.requires) refl
+    (token_gives c.args.tree.now c.args.state.now c.args.inside missing c.args.frames.now.items c.args.bound.now c.args.draft.now c.args.i c.in-Ok.value c.put_token.new.draft c.requires c.in-Ok.ensures
+    ∙ ap (λ (at : Place). given_to c.args.tree.now c.args.state.now c.args.inside c.args.frames.now.items c.args.bound.now (c.args.i + 1) at c.in-Ok.value c.put_token.new.draft) (sym c.place_at-place.ensures))
+    c.in-Ok-give.ensures)

@@ -1,0 +1,18 @@
+use Rattle.std.proofs.Common.{◌+◌}
+use Rattle.smt_terms.specs.Terms.{bound_forall, body_forall}
+use Rattle.smt_terms.specs.Cursor.{word_at, here}
+use Rattle.smt_terms.specs.Machine.{scope_of}
+use Rattle.smt_terms.proofs.CheckLemmas.{makes_as}
+use Rattle.smt_terms.proofs.ForallLemmas.{too_many, variables_unread, variables_read}
+use Rattle.smt_terms.proofs.foralls.put_bound_forall.Goals as goal
+
+pub returns-in-Err-clause-value : goal.returns-in-Err-clause-value
+returns-in-Err-clause-value c = too_many (word_at c.args.tree.now c.args.i).place (word_at c.args.tree.now (c.args.i + 1)).place (scope_of c.args.state.now c.args.inside c.args.bound.now) (here c.args.tree.now c.args.bindings) (here c.args.tree.now c.args.body) c.in-Err.stop c.in-Err.ensures c.args.draft.now
+
+pub returns-in-Err-read_variables-clause-value : goal.returns-in-Err-read_variables-clause-value
+returns-in-Err-read_variables-clause-value c = variables_unread (word_at c.args.tree.now c.args.i).place (word_at c.args.tree.now (c.args.i + 1)).place (scope_of c.args.state.now c.args.inside c.args.bound.now) (here c.args.tree.now c.args.bindings) (here c.args.tree.now c.args.body) c.in-Err-read_variables.stop c.in-Ok.ensures c.in-Err-read_variables.ensures c.args.draft.now
+
+pub returns-in-Ok-read_variables-clause-value : goal.returns-in-Ok-read_variables-clause-value
+returns-in-Ok-read_variables-clause-value c =
+    makes_as c.put_body.result c.args.draft.now c.put_body.new.draft (bound_forall (word_at c.args.tree.now c.args.i).place (word_at c.args.tree.now (c.args.i + 1)).place (scope_of c.args.state.now c.args.inside c.args.bound.now) (here c.args.tree.now c.args.bindings) (here c.args.tree.now c.args.body)) (body_forall (word_at c.args.tree.now c.args.i).place (word_at c.args.tree.now (c.args.i + 1)).place (scope_of c.args.state.now c.args.inside c.args.bound.now) c.in-Ok-read_variables.variables (here c.args.tree.now c.args.body))
+    (variables_read (word_at c.args.tree.now c.args.i).place (word_at c.args.tree.now (c.args.i + 1)).place (scope_of c.args.state.now c.args.inside c.args.bound.now) (here c.args.tree.now c.args.bindings) (here c.args.tree.now c.args.body) c.in-Ok-read_variables.variables c.args.draft.now (c.in-Ok.ensures c.args.draft.now) (c.in-Ok-read_variables.ensures c.args.draft.now)) c.put_body.ensures.value
