@@ -1,0 +1,6 @@
+pub mod SameContents
+pub mod NthLemmas
+pub mod StepLemmas
+pub mod SpreadLemmas
+pub mod WalkLemmas
+pub mod OrderLemmas
