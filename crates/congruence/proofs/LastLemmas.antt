@@ -103,29 +103,6 @@ module _ (old new : GraphState) (opened : Bool) (drops : DropsLast old new opene
   pub shorter_step : length new.standing + 1 ≡ length old.standing
   shorter_step = omega (arith, ap length drops.standing, length-append new.standing (drops.last ∷ []))
 
-  pub front_left : take (length old.standing - 1) old.standing ≡ new.standing
-  front_left =
-      let len : length old.standing - 1 ≡ length new.standing = omega (arith, shorter_step) in
-      ap (λ n. take n old.standing) len ∙ ap (take (length new.standing)) drops.standing ∙ take-append-le (length new.standing) new.standing (drops.last ∷ []) (omega arith) ∙ take_all (length new.standing) new.standing (omega arith)
-
--- ---- what was taken back was the graph before the last operation
-
-front_after : (log : List Done) (serial : ℕ) (op : Op) → (op ≡ Pop → ⊥) → take (length (standing_after log serial op) - 1) (standing_after log serial op) ≡ log
-front_after log serial op h = ap (λ xs. take (length xs - 1) xs) (each op h) ∙ take_front log (record { serial = serial; op = op } ∷ []) (then_op log serial op) 1 refl refl
-  where
-    each : (op : Op) → (op ≡ Pop → ⊥) → standing_after log serial op ≡ then_op log serial op
-    each (Add symbol args) h = refl
-    each (Merge left right) h = refl
-    each (Differ left right) h = refl
-    each (Live trigger) h = refl
-    each Push h = refl
-    each Pop h = absurd (h refl)
-
-pub taken_back-after : (before : GraphState) (op : Op) → (op ≡ Pop → ⊥) → taken_back (state_after before op) ≡ before
-taken_back-after before op h =
-    let done : before.done + 1 - 1 ≡ before.done = omega arith in
-    ap (λ xs. record before { standing = xs; done = before.done + 1 - 1 }) (front_after before.standing before.done op h) ∙ ap (λ n. record before { done = n }) done
-
 -- ---- the lists after an operation more
 
 pub triggers_after : (log new : List Done) (serial : ℕ) (op : Op) (live pushed : List Trigger) → new ≡ then_op log serial op → live ≡ triggers_of log → pushed ≡ live ++ triggers_added op → pushed ≡ triggers_of new

@@ -121,23 +121,6 @@ module _ (old new : Classes) (starts left : List ℕ) (k start : ℕ) (is : AreS
 pub levels_of-then : (log : List Done) (serial : ℕ) (op : Op) (opened : ℕ) → levels_of (record { serial = serial; op = op } ∷ []) ≡ opened → levels_of (then_op log serial op) ≡ levels_of log + opened
 levels_of-then log serial op opened e = sum_by-append (λ d. cond (is_push d) 1 0) log (record { serial = serial; op = op } ∷ []) ∙ ap (λ n. levels_of log + n) e
 
-pub opens_none : (serial : ℕ) (op : Op) → op ≢ Push → levels_of (record { serial = serial; op = op } ∷ []) ≡ 0
-opens_none serial (Add symbol args) h = refl
-opens_none serial (Merge left right) h = refl
-opens_none serial (Differ left right) h = refl
-opens_none serial (Live trigger) h = refl
-opens_none serial Push h = absurd (h refl)
-opens_none serial Pop h = refl
-
--- all but a Pop comes last
-pub standing_after-then : (log : List Done) (serial : ℕ) (op : Op) → op ≢ Pop → standing_after log serial op ≡ then_op log serial op
-standing_after-then log serial (Add symbol args) h = refl
-standing_after-then log serial (Merge left right) h = refl
-standing_after-then log serial (Differ left right) h = refl
-standing_after-then log serial (Live trigger) h = refl
-standing_after-then log serial Push h = refl
-standing_after-then log serial Pop h = absurd (h refl)
-
 -- the fields after an operation
 pub AreStarts-after : (old new : Classes) (starts reserved pushed : List ℕ) (serial : ℕ) (op : Op) (start : ℕ) → AreStarts old starts → KeepsHistory old new → start ≡ length (notes old) → Follows (now old) (now new) serial op → IsGood (now new) → reserved ≡ starts → pushed ≡ reserved ++ start ∷ [] → AreStarts new pushed
 AreStarts-after old new starts reserved pushed serial op start is history is_start follows good same more =
