@@ -1,19 +1,17 @@
 -- What came with the last operation, and what is left without it.
-use Rattle.std.proofs.Common.{◌≡◌, ◌≤◌, ◌<◌, ◌+◌, ◌-◌, ◌^◌, cond, ℕ, Bool, true, false, List, [], ◌∷◌, ◌++◌, length, take, Option, suc, Some, None, slice_get, refl, sym, ◌∙◌, ap, subst, arith, length-append}
+use Rattle.std.proofs.Common.{◌≡◌, ◌≤◌, ◌<◌, ◌+◌, ◌-◌, cond, ℕ, Bool, true, false, List, [], ◌∷◌, ◌++◌, length, take, Option, suc, Some, None, slice_get, refl, sym, ◌∙◌, ap, arith, length-append}
 use Rattle.std.specs.List.{before_last, filter_map, cons_option}
-use Rattle.std.proofs.lemmas.List.{take_all, take-append-le, length-take-le}
+use Rattle.std.proofs.lemmas.List.{take_all, take-append-le}
 use Rattle.std.proofs.lemmas.List.Sums.{sum_by-append}
 use Rattle.term_table.specs.declared.done.Done.{Done}
 use Rattle.term_table.specs.declared.op.Op.{Op}
-use Rattle.term_table.specs.declared.op.Op.TheVariants.{Add, Merge, Differ, Live, Push, Pop}
 use Rattle.term_table.specs.declared.trigger.Trigger.{Trigger}
 use Rattle.term_table.specs.LawfulLaws.{then_op, triggers_of-push, differs_of-push}
 use Rattle.term_table.specs.ListLaws.{take-slice_get, before_last-hit, before_last-miss}
-use Rattle.term_table.specs.Standing.{is_push, live_trigger, levels_of, triggers_of, differs_of, triggers_added, differs_added, standing_after}
-use Rattle.term_table.specs.State.{GraphState, state_after}
+use Rattle.term_table.specs.Standing.{is_push, live_trigger, levels_of, triggers_of, triggers_added, differs_added}
+use Rattle.term_table.specs.State.{GraphState}
 use Rattle.congruence.specs.Clash.{apart_of}
 use Rattle.congruence.specs.Last.{DropsLast, IsLastShare}
-use Rattle.congruence.specs.Operations.{CanTakeBack, taken_back}
 use Rattle.congruence.specs.declared.share.Share.{Share}
 
 -- all but the last, and the last

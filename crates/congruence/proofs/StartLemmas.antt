@@ -1,14 +1,13 @@
 -- The marks at which operations began.
-use Rattle.std.proofs.Common.{◌≡◌, ◌≢◌, cond, ◌≤◌, ◌<◌, ◌+◌, ◌-◌, ◌⊎◌, inl, inr, ℕ, List, [], ◌∷◌, ◌++◌, length, drop, take, slice_index, refl, sym, ◌∙◌, ap, subst, arith, length-append}
+use Rattle.std.proofs.Common.{◌≡◌, cond, ◌≤◌, ◌<◌, ◌+◌, ◌-◌, ◌⊎◌, inl, inr, ℕ, List, [], ◌∷◌, ◌++◌, length, drop, take, slice_index, refl, sym, ◌∙◌, ap, subst, arith}
 use Rattle.std.proofs.lemmas.List.Sums.{sum_by-append}
 use Rattle.std.proofs.lemmas.Grind.{common_steps}
 use Rattle.std.proofs.lemmas.List.{length-take, take-take}
 use Rattle.undo_trail.specs.Undo.{state_before}
 use Rattle.term_table.specs.declared.done.Done.{Done}
 use Rattle.term_table.specs.declared.op.Op.{Op}
-use Rattle.term_table.specs.declared.op.Op.TheVariants.{Add, Merge, Differ, Live, Push, Pop}
 use Rattle.term_table.specs.LawfulLaws.{then_op}
-use Rattle.term_table.specs.Standing.{is_push, levels_of, standing_after}
+use Rattle.term_table.specs.Standing.{is_push, levels_of}
 use Rattle.class_parts.specs.declared.classes.Classes.{Classes}
 use Rattle.class_parts.specs.declared.change.Change.{Change}
 use Rattle.class_parts.specs.State.{State, before_change}
