@@ -1,5 +1,5 @@
 -- What an Add of a new row answers.
-use Rattle.std.proofs.Common.{◌≡◌, ℕ, List, Bool, true, IsTrue, length, Result, Ok, Err, OnOk, IfOk, sym, subst}
+use Rattle.std.proofs.Common.{◌≡◌, ℕ, List, Bool, IsTrue, length, Result, Ok, Err, OnOk, IfOk, sym, subst}
 use Rattle.term_table.specs.declared.op.Op.TheVariants.{Add}
 use Rattle.term_table.specs.Same.{Same}
 use Rattle.term_table.specs.Standing.{terms_of}

@@ -1,12 +1,12 @@
 -- Pairs that are kept apart, looked through in order.
-use Rattle.std.proofs.Common.{◌≡◌, ◌≤◌, ◌<◌, ◌+◌, ◌⊎◌, inl, inr, ℕ, List, [], ◌∷◌, length, Some, Bool, true, false, zero, suc, slice_get, slice_index_or, get_or, Contains, refl, sym, ◌∙◌, ap, subst, arith}
+use Rattle.std.proofs.Common.{◌≡◌, ◌≤◌, ◌<◌, ◌+◌, ◌⊎◌, inl, inr, ℕ, List, [], ◌∷◌, length, Some, Bool, true, false, zero, suc, slice_get, get_or, Contains, refl, sym, ◌∙◌, ap, subst, arith}
 use Rattle.std.proofs.lemmas.Option.{slice_get_within}
 use Rattle.term_table.specs.declared.done.Done.{Done}
 use Rattle.term_table.specs.Lawful.{IsLawful}
 use Rattle.term_table.specs.ListLaws.{place_from_Contains, Contains-slice_get}
 use Rattle.term_table.specs.Same.{Same}
 use Rattle.term_table.specs.Standing.{terms_of, differs_of}
-use Rattle.congruence.specs.Clash.{apart_of, NoneSame, IsClash}
+use Rattle.congruence.specs.Clash.{apart_of, NoneSame}
 
 two_terms : (standing : List Done) → 1 < length (terms_of standing)
 two_terms standing = omega arith

@@ -1,12 +1,9 @@
-use Rattle.std.proofs.Common.{◌≡◌, ◌<◌, ◌+◌, ◌⊎◌, inl, inr, ℕ, List, [], ◌∷◌, ◌++◌, length, Option, Some, None, map, nat_eq, slice_get, slice_index, Contains, cond, Bool, true, false, refl, sym, ◌∙◌, ap, subst, arith}
-use Rattle.std.specs.Cmp.Lexicographic.{pointwise, bytes_decides}
-use Rattle.std.proofs.lemmas.Grind.{common_steps}
-use Rattle.std.proofs.lemmas.List.Elements.{Contains-append_left, Contains-append_right, Contains-append_cases}
+use Rattle.std.proofs.Common.{◌≡◌, ◌<◌, inl, inr, ℕ, List, [], ◌∷◌, length, Some, map, slice_get, slice_index, refl, sym, ◌∙◌, ap, subst}
 use Rattle.term_table.specs.declared.term_row.TermRow.{TermRow}
 use Rattle.term_table.specs.Terms.{term_row}
 use Rattle.term_table.specs.Same.{Derives, DerivesEach, same_term, turned, joined, merged, congruent, none, more}
 use Rattle.congruence.proofs.ReadLemmas.{contains_none}
-use Rattle.class_parts.specs.Closure.{signature, found, Respects, Joined, EntryIsSame, IsSound, IsSigned, IsComplete}
+use Rattle.class_parts.specs.Closure.{signature, found, Joined, IsSound, IsSigned, IsComplete}
 
 -- ---- at rest: labels are equal exactly where the terms are the same
 

@@ -1,19 +1,17 @@
 -- What came with the last operation, and what is left without it.
-use Rattle.std.proofs.Common.{◌≡◌, ◌≤◌, ◌<◌, ◌+◌, ◌-◌, ◌^◌, cond, ℕ, Bool, true, false, List, [], ◌∷◌, ◌++◌, length, take, Option, suc, Some, None, slice_get, refl, sym, ◌∙◌, ap, subst, arith, length-append}
+use Rattle.std.proofs.Common.{◌≡◌, ◌≤◌, ◌<◌, ◌+◌, ◌-◌, cond, ℕ, Bool, true, false, List, [], ◌∷◌, ◌++◌, length, take, Option, suc, Some, None, slice_get, refl, sym, ◌∙◌, ap, arith, length-append}
 use Rattle.std.specs.List.{before_last, filter_map, cons_option}
-use Rattle.std.proofs.lemmas.List.{take_all, take-append-le, length-take-le}
+use Rattle.std.proofs.lemmas.List.{take_all, take-append-le}
 use Rattle.std.proofs.lemmas.List.Sums.{sum_by-append}
 use Rattle.term_table.specs.declared.done.Done.{Done}
 use Rattle.term_table.specs.declared.op.Op.{Op}
-use Rattle.term_table.specs.declared.op.Op.TheVariants.{Add, Merge, Differ, Live, Push, Pop}
 use Rattle.term_table.specs.declared.trigger.Trigger.{Trigger}
 use Rattle.term_table.specs.LawfulLaws.{then_op, triggers_of-push, differs_of-push}
 use Rattle.term_table.specs.ListLaws.{take-slice_get, before_last-hit, before_last-miss}
-use Rattle.term_table.specs.Standing.{is_push, live_trigger, levels_of, triggers_of, differs_of, triggers_added, differs_added, standing_after}
-use Rattle.term_table.specs.State.{GraphState, state_after}
+use Rattle.term_table.specs.Standing.{is_push, live_trigger, levels_of, triggers_of, triggers_added, differs_added}
+use Rattle.term_table.specs.State.{GraphState}
 use Rattle.congruence.specs.Clash.{apart_of}
 use Rattle.congruence.specs.Last.{DropsLast, IsLastShare}
-use Rattle.congruence.specs.Operations.{CanTakeBack, taken_back}
 use Rattle.congruence.specs.declared.share.Share.{Share}
 
 -- all but the last, and the last
@@ -102,29 +100,6 @@ module _ (old new : GraphState) (opened : Bool) (drops : DropsLast old new opene
 
   pub shorter_step : length new.standing + 1 ≡ length old.standing
   shorter_step = omega (arith, ap length drops.standing, length-append new.standing (drops.last ∷ []))
-
-  pub front_left : take (length old.standing - 1) old.standing ≡ new.standing
-  front_left =
-      let len : length old.standing - 1 ≡ length new.standing = omega (arith, shorter_step) in
-      ap (λ n. take n old.standing) len ∙ ap (take (length new.standing)) drops.standing ∙ take-append-le (length new.standing) new.standing (drops.last ∷ []) (omega arith) ∙ take_all (length new.standing) new.standing (omega arith)
-
--- ---- what was taken back was the graph before the last operation
-
-front_after : (log : List Done) (serial : ℕ) (op : Op) → (op ≡ Pop → ⊥) → take (length (standing_after log serial op) - 1) (standing_after log serial op) ≡ log
-front_after log serial op h = ap (λ xs. take (length xs - 1) xs) (each op h) ∙ take_front log (record { serial = serial; op = op } ∷ []) (then_op log serial op) 1 refl refl
-  where
-    each : (op : Op) → (op ≡ Pop → ⊥) → standing_after log serial op ≡ then_op log serial op
-    each (Add symbol args) h = refl
-    each (Merge left right) h = refl
-    each (Differ left right) h = refl
-    each (Live trigger) h = refl
-    each Push h = refl
-    each Pop h = absurd (h refl)
-
-pub taken_back-after : (before : GraphState) (op : Op) → (op ≡ Pop → ⊥) → taken_back (state_after before op) ≡ before
-taken_back-after before op h =
-    let done : before.done + 1 - 1 ≡ before.done = omega arith in
-    ap (λ xs. record before { standing = xs; done = before.done + 1 - 1 }) (front_after before.standing before.done op h) ∙ ap (λ n. record before { done = n }) done
 
 -- ---- the lists after an operation more
 

@@ -1,5 +1,5 @@
 -- What labels and unions mean by the operations that stand.
-use Rattle.std.proofs.Common.{◌≡◌, ◌<◌, ◌≤◌, ◌⊎◌, inl, inr, ℕ, List, [], ◌∷◌, length, Some, slice_get, slice_index, take, Contains, refl, sym, ◌∙◌, ap, subst, arith, ◌+◌, ◌++◌}
+use Rattle.std.proofs.Common.{◌≡◌, ◌<◌, ◌⊎◌, inl, inr, ℕ, List, [], ◌∷◌, length, slice_index, take, sym, ◌∙◌, ap, subst, arith, ◌+◌, ◌++◌}
 use Rattle.std.proofs.lemmas.Grind.{common_steps}
 use Rattle.std.proofs.lemmas.Option.{slice_get_within}
 use Rattle.term_table.specs.declared.term_row.TermRow.{TermRow}

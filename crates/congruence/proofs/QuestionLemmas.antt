@@ -1,10 +1,10 @@
 -- What the lists and leaders answer.
-use Rattle.std.proofs.Common.{◌≡◌, ◌<◌, ◌≤◌, ◌↔◌, ℕ, List, length, Some, slice_get, slice_index, slice_index_or, Contains, Option, AllPairs, sym, ◌∙◌, ap, subst}
+use Rattle.std.proofs.Common.{◌≡◌, ◌<◌, ◌≤◌, ℕ, length, slice_get, slice_index, slice_index_or, Option, AllPairs, sym, ◌∙◌, ap, subst}
 use Rattle.std.proofs.lemmas.Option.{slice_get_within}
 use Rattle.term_table.specs.declared.term_row.TermRow.{TermRow}
 use Rattle.term_table.specs.Terms.{term_row, HasRow}
-use Rattle.term_table.specs.Same.{Same, IsLeader}
-use Rattle.term_table.specs.Questions.{AreAll, IsNth, HasSymbol, InClass, IsParent}
+use Rattle.term_table.specs.Same.{IsLeader}
+use Rattle.term_table.specs.Questions.{IsNth, HasSymbol, InClass, IsParent}
 use Rattle.term_table.specs.Standing.{terms_of}
 use Rattle.class_parts.specs.declared.place.Place.TheVariants.{Symbol, Member, Parent}
 use Rattle.class_parts.specs.State.{State}

@@ -1,5 +1,5 @@
 -- What was read of a list.
-use Rattle.std.proofs.Common.{◌≡◌, ◌<◌, ℕ, List, [], ◌∷◌, length, Some, zero, suc, slice_get, slice_index, slice_index_or, Contains, refl, sym, ◌∙◌, ap, subst, arith}
+use Rattle.std.proofs.Common.{◌≡◌, ◌<◌, ℕ, List, [], ◌∷◌, length, Some, zero, suc, slice_get, slice_index, slice_index_or, Contains, refl, sym, ◌∙◌, subst, arith}
 use Rattle.std.proofs.lemmas.Option.{slice_get_within}
 use Rattle.class_parts.specs.State.{State}
 use Rattle.class_parts.specs.Indexed.{IsIndexed}

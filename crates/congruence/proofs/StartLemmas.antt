@@ -1,14 +1,13 @@
 -- The marks at which operations began.
-use Rattle.std.proofs.Common.{◌≡◌, ◌≢◌, cond, ◌≤◌, ◌<◌, ◌+◌, ◌-◌, ◌⊎◌, inl, inr, ℕ, List, [], ◌∷◌, ◌++◌, length, drop, take, slice_index, refl, sym, ◌∙◌, ap, subst, arith, length-append}
+use Rattle.std.proofs.Common.{◌≡◌, cond, ◌≤◌, ◌<◌, ◌+◌, ◌-◌, ◌⊎◌, inl, inr, ℕ, List, [], ◌∷◌, ◌++◌, length, drop, take, slice_index, refl, sym, ◌∙◌, ap, subst, arith}
 use Rattle.std.proofs.lemmas.List.Sums.{sum_by-append}
 use Rattle.std.proofs.lemmas.Grind.{common_steps}
 use Rattle.std.proofs.lemmas.List.{length-take, take-take}
 use Rattle.undo_trail.specs.Undo.{state_before}
 use Rattle.term_table.specs.declared.done.Done.{Done}
 use Rattle.term_table.specs.declared.op.Op.{Op}
-use Rattle.term_table.specs.declared.op.Op.TheVariants.{Add, Merge, Differ, Live, Push, Pop}
 use Rattle.term_table.specs.LawfulLaws.{then_op}
-use Rattle.term_table.specs.Standing.{is_push, levels_of, standing_after}
+use Rattle.term_table.specs.Standing.{is_push, levels_of}
 use Rattle.class_parts.specs.declared.classes.Classes.{Classes}
 use Rattle.class_parts.specs.declared.change.Change.{Change}
 use Rattle.class_parts.specs.State.{State, before_change}
@@ -120,23 +119,6 @@ module _ (old new : Classes) (starts left : List ℕ) (k start : ℕ) (is : AreS
 -- the levels once an operation came last
 pub levels_of-then : (log : List Done) (serial : ℕ) (op : Op) (opened : ℕ) → levels_of (record { serial = serial; op = op } ∷ []) ≡ opened → levels_of (then_op log serial op) ≡ levels_of log + opened
 levels_of-then log serial op opened e = sum_by-append (λ d. cond (is_push d) 1 0) log (record { serial = serial; op = op } ∷ []) ∙ ap (λ n. levels_of log + n) e
-
-pub opens_none : (serial : ℕ) (op : Op) → op ≢ Push → levels_of (record { serial = serial; op = op } ∷ []) ≡ 0
-opens_none serial (Add symbol args) h = refl
-opens_none serial (Merge left right) h = refl
-opens_none serial (Differ left right) h = refl
-opens_none serial (Live trigger) h = refl
-opens_none serial Push h = absurd (h refl)
-opens_none serial Pop h = refl
-
--- all but a Pop comes last
-pub standing_after-then : (log : List Done) (serial : ℕ) (op : Op) → op ≢ Pop → standing_after log serial op ≡ then_op log serial op
-standing_after-then log serial (Add symbol args) h = refl
-standing_after-then log serial (Merge left right) h = refl
-standing_after-then log serial (Differ left right) h = refl
-standing_after-then log serial (Live trigger) h = refl
-standing_after-then log serial Push h = refl
-standing_after-then log serial Pop h = absurd (h refl)
 
 -- the fields after an operation
 pub AreStarts-after : (old new : Classes) (starts reserved pushed : List ℕ) (serial : ℕ) (op : Op) (start : ℕ) → AreStarts old starts → KeepsHistory old new → start ≡ length (notes old) → Follows (now old) (now new) serial op → IsGood (now new) → reserved ≡ starts → pushed ≡ reserved ++ start ∷ [] → AreStarts new pushed

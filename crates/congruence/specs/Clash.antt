@@ -1,5 +1,5 @@
 -- When a graph clashes.
-use Rattle.std.specs.Prelude.{◌≡◌, ◌<◌, ℕ, List, [], ◌∷◌, Option, Some, None, slice_get, Contains}
+use Rattle.std.specs.Prelude.{◌≡◌, ◌<◌, ℕ, List, ◌∷◌, Option, Some, None, slice_get, Contains}
 use Rattle.term_table.specs.declared.done.Done.{Done}
 use Rattle.term_table.specs.Same.{Same}
 use Rattle.term_table.specs.Standing.{differs_of}

@@ -1,5 +1,5 @@
 -- What the last operation that stands added, and what taking it off leaves.
-use Rattle.std.specs.Prelude.{◌≡◌, ◌-◌, ℕ, Bool, List, [], ◌∷◌, ◌++◌, length, Some, slice_get}
+use Rattle.std.specs.Prelude.{◌≡◌, ◌-◌, Bool, List, [], ◌∷◌, ◌++◌, length, Some, slice_get}
 use Rattle.term_table.specs.declared.done.Done.{Done}
 use Rattle.term_table.specs.Standing.{is_push, levels_of, differs_added, triggers_added}
 use Rattle.term_table.specs.State.{GraphState}

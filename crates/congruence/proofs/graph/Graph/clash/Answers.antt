@@ -1,4 +1,4 @@
-use Rattle.std.proofs.Common.{◌≡◌, ◌≤◌, ◌<◌, ℕ, List, length, slice_get, Contains, ap, sym, ◌∙◌, subst, arith}
+use Rattle.std.proofs.Common.{◌≤◌, ◌<◌, ℕ, List, length, slice_get, Contains, ap, sym, ◌∙◌, subst, arith}
 use Rattle.term_table.specs.Lawful.{IsLawful}
 use Rattle.term_table.specs.Same.{Same}
 use Rattle.term_table.specs.State.{GraphState}

@@ -1,10 +1,8 @@
-use Rattle.std.proofs.Common.{◌≡◌, ◌≤◌, ◌<◌, ◌+◌, ◌-◌, ◌++◌, ◌∷◌, [], length, take, ap, refl, sym, ◌∙◌, subst, arith, slice_index, slice_index_or, List, ℕ}
+use Rattle.std.proofs.Common.{◌≡◌, ◌<◌, ◌-◌, length, take, ap, refl, sym, ◌∙◌, arith}
 use Rattle.term_table.specs.State.{GraphState}
-use Rattle.term_table.specs.Standing.{is_push, terms_of, levels_of, differs_added, triggers_added, triggers_of}
-use Rattle.class_parts.specs.History.{now}
+use Rattle.term_table.specs.Standing.{levels_of, triggers_of}
 use Rattle.congruence.specs.Clash.{apart_of}
-use Rattle.congruence.specs.Last.{DropsLast, IsLastShare}
-use Rattle.congruence.proofs.LastLemmas.{levels_left, triggers_few, apart_few, triggers_left, apart_left, drops_last}
+use Rattle.congruence.proofs.LastLemmas.{levels_left, triggers_few, triggers_left, apart_left, drops_last}
 use Rattle.congruence.proofs.ReadLemmas.{read_is}
 use Rattle.congruence.proofs.StartLemmas.{rest_read, limit_read, AreStarts-read}
 use Rattle.congruence.proofs.graph.Graph.drop_last.Goals as goal

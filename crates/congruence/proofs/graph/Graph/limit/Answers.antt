@@ -1,4 +1,4 @@
-use Rattle.std.proofs.Common.{◌≡◌, ◌≤◌, ◌∙◌, length, ap, arith}
+use Rattle.std.proofs.Common.{length, ap, arith}
 use Rattle.term_table.specs.Standing.{terms_of}
 use Rattle.term_table.specs.State.{GraphState}
 use Rattle.congruence.proofs.graph.Graph.limit.Goals as goal

@@ -1,4 +1,4 @@
-use Rattle.std.proofs.Common.{◌≡◌, ◌∙◌, ◌++◌, ◌∷◌, [], ap, sym, refl, arith, append-nil}
+use Rattle.std.proofs.Common.{◌∙◌, ◌++◌, ◌∷◌, [], ap, sym, refl, arith, append-nil}
 use Rattle.term_table.specs.declared.op.Op.TheVariants.{Live as LiveOp}
 use Rattle.term_table.specs.Standing.{levels_of}
 use Rattle.term_table.specs.State.{GraphState}

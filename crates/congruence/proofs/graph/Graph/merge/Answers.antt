@@ -1,4 +1,4 @@
-use Rattle.std.proofs.Common.{◌∙◌, ap, sym, refl, arith, length, ◌++◌, [], append-nil, subst}
+use Rattle.std.proofs.Common.{◌∙◌, ap, sym, refl, arith, length, append-nil, subst}
 use Rattle.term_table.specs.declared.op.Op.TheVariants.{Merge as MergeOp}
 use Rattle.term_table.specs.Same.{Same}
 use Rattle.term_table.specs.Standing.{terms_of, levels_of}

@@ -1,4 +1,4 @@
-use Rattle.std.proofs.Common.{◌≡◌, ◌≤◌, ◌<◌, ◌+◌, ◌-◌, length, take, ap, sym, ◌∙◌, subst, arith}
+use Rattle.std.proofs.Common.{ap, arith}
 use Rattle.term_table.specs.Standing.{levels_of}
 use Rattle.term_table.specs.State.{GraphState}
 use Rattle.congruence.proofs.graph.Graph.pop.Goals as goal

@@ -1,4 +1,4 @@
-use Rattle.std.proofs.Common.{append-nil, ◌≡◌, ◌∙◌, ap, sym, refl, arith}
+use Rattle.std.proofs.Common.{append-nil, ap, sym, refl, arith}
 use Rattle.term_table.specs.declared.op.Op.TheVariants.{Push as PushOp}
 use Rattle.term_table.specs.Standing.{levels_of}
 use Rattle.term_table.specs.State.{GraphState}

@@ -1,12 +1,9 @@
-use Rattle.std.proofs.Common.{◌≡◌, ◌<◌, ap, sym, ◌∙◌, length, subst}
-use Rattle.term_table.specs.Same.{IsLeader}
-use Rattle.term_table.specs.Questions.{IsNth, HasSymbol, InClass, IsParent}
+use Rattle.std.proofs.Common.{◌<◌, ap, ◌∙◌, length, subst}
+use Rattle.term_table.specs.Questions.{IsNth, IsParent}
 use Rattle.term_table.specs.Standing.{terms_of}
 use Rattle.term_table.specs.State.{GraphState}
 use Rattle.class_parts.specs.History.{now}
-use Rattle.congruence.proofs.ReadLemmas.{read_is}
-use Rattle.congruence.proofs.ReadLemmas.{own_label}
-use Rattle.congruence.proofs.QuestionLemmas.{leader_is, in_class_is, parent_is, with_symbol_is}
+use Rattle.congruence.proofs.QuestionLemmas.{parent_is}
 use Rattle.congruence.proofs.graph.GraphClassGraph.parent.Goals as goal
 
 pub returns : goal.returns

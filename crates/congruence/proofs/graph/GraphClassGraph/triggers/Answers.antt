@@ -1,4 +1,4 @@
-use Rattle.std.proofs.Common.{◌≡◌, ◌≤◌, ◌<◌, length, ap, arith}
+use Rattle.std.proofs.Common.{length, ap, arith}
 use Rattle.class_parts.specs.History.{now}
 use Rattle.congruence.proofs.LastLemmas.{triggers_at_most}
 use Rattle.congruence.proofs.graph.GraphClassGraph.triggers.Goals as goal
