@@ -3,10 +3,10 @@ use crate::*;
 use em_outside::Limits;
 use formula_shape::{ShapeDraft, ShapeNode, ShapeRow};
 use smt_names::{Arg, Connective, Definition, Head, Refusal, SessionState, Signature, Stop, Value};
-use smt_text::Place;
+use smt_text::{Kind, Place};
 use std::alloc::Global;
 use std::test::Fail;
-use term_table::{Memory, Numbers};
+use term_table::Numbers;
 
 const HERE: Place = Place { line: 1, column: 9 };
 
@@ -27,7 +27,7 @@ fn term(row: u32) -> Arg {
     arg(Value::Term { row, sort: 1 })
 }
 
-/// How many nodes a connective puts for three formulas, or one, or two terms, and its node.
+/// How many nodes a connective puts for these arguments, and the node that it is.
 fn count(alloc: Global, connective: Connective, args: &[Arg]) -> Result<(u32, u32), Stop> {
     let mut draft = ShapeDraft::new(alloc, 100, 100);
     let state = SessionState::new(alloc, &Limits::standard());
@@ -64,24 +64,39 @@ fn each_connective_puts_its_nodes(rt: HostRuntime) -> Result<(), Fail> {
     Ok(())
 }
 
-/// A function p of one argument, and the definition d of its atom for a parameter.
-fn declared(alloc: Global) -> Result<SessionState, Stop> {
-    let mut state = SessionState::new(alloc, &Limits::standard());
+/// Declares a sort and a function of one argument.
+fn declare(alloc: Global, state: &mut SessionState) -> Result<(), Stop> {
+    state.check_sort_name(Kind::Symbol, HERE, b"U".as_slice())?;
     state.declare_sort(b"U".as_slice())?;
     let arguments = Numbers::from_slice(alloc, &[1])?;
+    state.check_function_name(Kind::Symbol, HERE, b"p".as_slice())?;
     state.declare_function(b"p".as_slice(), Signature { arguments, sort: 0 })?;
+    Ok(())
+}
+
+/// The atom of the function for a parameter.
+fn atom(alloc: Global, state: &SessionState) -> Result<Definition, Stop> {
     let mut draft = ShapeDraft::new(alloc, 100, 100);
     let row = put_row(alloc, &mut draft, HERE, ShapeRow::Var { index: 0 })?;
     let args = [term(row)];
     let p = b"p".as_slice();
     let head = Head::Function(0);
-    let value = apply(alloc, &mut draft, &state, HERE, HERE, p, head, &args)?;
-    let definition = Definition {
-        parameters: Numbers::from_slice(alloc, &[1])?,
+    let value = apply(alloc, &mut draft, state, HERE, HERE, p, head, &args)?;
+    let parameters = Numbers::from_slice(alloc, &[1])?;
+    Ok(Definition {
+        parameters,
         sort: 0,
         draft,
         value,
-    };
+    })
+}
+
+/// A function p of one argument, and the definition d of its atom for a parameter.
+fn declared(alloc: Global) -> Result<SessionState, Stop> {
+    let mut state = SessionState::new(alloc, &Limits::standard());
+    declare(alloc, &mut state)?;
+    let definition = atom(alloc, &state)?;
+    state.check_function_name(Kind::Symbol, HERE, b"d".as_slice())?;
     state.define(b"d".as_slice(), definition)?;
     Ok(state)
 }
