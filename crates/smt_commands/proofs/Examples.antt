@@ -1,5 +1,5 @@
 -- What commands answer, and where each refusal comes. The column of a token is its number.
-use Rattle.std.proofs.Common.{◌≡◌, ℕ, ◌+◌, List, [], ◌∷◌, ◌++◌, true, false, Option, Some, None, Result, Ok, Err, refl, codes}
+use Rattle.std.proofs.Common.{◌≡◌, ℕ, ◌+◌, List, [], ◌∷◌, ◌++◌, true, false, Some, Ok, Err, refl, codes}
 use Rattle.smt_text.specs.Word.{Word}
 use Rattle.smt_text.specs.declared.token.Kind.{Kind}
 use Rattle.smt_text.specs.declared.token.Kind.TheVariants.{Left, Right, Symbol, Keyword, Numeral, Text}
@@ -7,8 +7,8 @@ use Rattle.smt_text.specs.Trees.{ahead}
 use Rattle.em_outside.specs.declared.limits.Limits.{Limits}
 use Rattle.term_table.specs.declared.pattern_row.PatternRow.TheVariants as pattern
 use Rattle.formula_shape.specs.declared.shape_row.ShapeRow.TheVariants.{Var, App}
-use Rattle.formula_shape.specs.declared.shape_node.ShapeNode.TheVariants.{Equal, Atom, And, Or, Forall}
-use Rattle.smt_names.specs.declared.value.Value.TheVariants.{Term, Formula}
+use Rattle.formula_shape.specs.declared.shape_node.ShapeNode.TheVariants.{Equal, Atom, Forall}
+use Rattle.smt_names.specs.declared.value.Value.TheVariants.{Formula}
 use Rattle.smt_names.specs.declared.refusal.Refusal.{Refusal}
 use Rattle.smt_names.specs.declared.refusal.Refusal.TheVariants as refusal
 use Rattle.smt_names.specs.Names.{State, at_start, pushed, connective, is_reserved}

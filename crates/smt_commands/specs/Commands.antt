@@ -1,7 +1,6 @@
 -- Commands: what each one answers, and the state after it.
-use Rattle.std.specs.Prelude.{◌≡◌, ℕ, ◌+◌, Bool, true, false, cond, not, ◌&&◌, ◌||◌, nat_le, ◌==◌, if◌then◌else◌, List, [], ◌∷◌, ◌++◌, map, length, Option, Some, None, Result, Ok, Err, bytes_eq, codes}
+use Rattle.std.specs.Prelude.{ℕ, ◌+◌, Bool, true, false, cond, not, ◌&&◌, ◌||◌, nat_le, ◌==◌, if◌then◌else◌, List, [], ◌∷◌, ◌++◌, map, length, Result, Ok, Err, bytes_eq, codes}
 use Rattle.std.specs.List.{list_any}
-use Rattle.em_outside.specs.declared.limits.Limits.{Limits}
 use Rattle.smt_text.specs.Word.{Word}
 use Rattle.smt_text.specs.Trees.{tree_of}
 use Rattle.smt_text.specs.declared.token.Place.{Place}
@@ -74,8 +73,8 @@ set_logic state head parts = do
 -- what :print-success is set to
 abbrev pub set_success : State → Word → Making Answer
 set_success state v =
-  if bytes_eq v.text (codes "true") then silent (record state { prints_success = true }) else
-  if bytes_eq v.text (codes "false") then silent (record state { prints_success = false }) else bad_form v.place
+    if bytes_eq v.text (codes "true") then silent (record state { prints_success = true }) else
+    if bytes_eq v.text (codes "false") then silent (record state { prints_success = false }) else bad_form v.place
 
 -- (set-option :print-success v)
 abbrev pub set_print_success : State → Place → Meant → Making Answer
@@ -161,8 +160,10 @@ abbrev pub sorts_of : List Bound → List ℕ
 sorts_of bound = map (λ b. sort_of_bound b.stands) bound
 
 abbrev pub defined : State → List ℕ → List Bound → ℕ → Value → Making Answer
-defined state name parameters sort v draft = silent (record state { definitions = state.definitions
-  ++ record { name = name; parameters = sorts_of parameters; sort = sort; rows = draft.rows; nodes = draft.nodes; value = v } ∷ [] }) draft
+defined state name parameters sort v draft = silent (record state {
+  definitions = state.definitions
+      ++ record { name = name; parameters = sorts_of parameters; sort = sort; rows = draft.rows; nodes = draft.nodes; value = v } ∷ [];
+}) draft
 
 -- inside a definition of these parameters
 abbrev pub inside_definition : State → List Bound → Scope
@@ -221,12 +222,12 @@ pop_levels state head parts = do
 
 abbrev pub info_of : List ℕ → Info
 info_of key =
-  if bytes_eq key (codes ":name") then info.Name else
-  if bytes_eq key (codes ":version") then info.Version else
-  if bytes_eq key (codes ":authors") then info.Authors else
-  if bytes_eq key (codes ":error-behavior") then info.ErrorBehavior else
-  if bytes_eq key (codes ":assertion-stack-levels") then info.Levels else
-  if bytes_eq key (codes ":reason-unknown") then info.ReasonUnknown else info.Other
+    if bytes_eq key (codes ":name") then info.Name else
+    if bytes_eq key (codes ":version") then info.Version else
+    if bytes_eq key (codes ":authors") then info.Authors else
+    if bytes_eq key (codes ":error-behavior") then info.ErrorBehavior else
+    if bytes_eq key (codes ":assertion-stack-levels") then info.Levels else
+    if bytes_eq key (codes ":reason-unknown") then info.ReasonUnknown else info.Other
 
 -- (get-info :k)
 abbrev pub get_info : State → Place → Meant → Making Answer
@@ -255,23 +256,23 @@ is_in names name = list_any (bytes_eq name) names
 -- The names of the commands that are read.
 abbrev pub named_so : List ℕ → Named
 named_so name =
-  if bytes_eq name (codes "set-logic") then named.SetLogic else
-  if bytes_eq name (codes "set-option") then named.SetOption else
-  if bytes_eq name (codes "set-info") then named.SetInfo else
-  if bytes_eq name (codes "declare-sort") then named.DeclareSort else
-  if bytes_eq name (codes "declare-fun") then named.DeclareFun else
-  if bytes_eq name (codes "declare-const") then named.DeclareConst else
-  if bytes_eq name (codes "define-fun") then named.DefineFun else
-  if bytes_eq name (codes "assert") then named.Assert else
-  if bytes_eq name (codes "push") then named.Push else
-  if bytes_eq name (codes "pop") then named.Pop else
-  if bytes_eq name (codes "check-sat") then named.CheckSat else
-  if bytes_eq name (codes "get-info") then named.GetInfo else
-  if bytes_eq name (codes "reset") then named.Reset else
-  if bytes_eq name (codes "reset-assertions") then named.ResetAssertions else
-  if bytes_eq name (codes "exit") then named.Exit else
-  if is_in unsupported_names name then named.Unsupported else
-  if is_in foreign_names name then named.Foreign else named.Unknown
+    if bytes_eq name (codes "set-logic") then named.SetLogic else
+    if bytes_eq name (codes "set-option") then named.SetOption else
+    if bytes_eq name (codes "set-info") then named.SetInfo else
+    if bytes_eq name (codes "declare-sort") then named.DeclareSort else
+    if bytes_eq name (codes "declare-fun") then named.DeclareFun else
+    if bytes_eq name (codes "declare-const") then named.DeclareConst else
+    if bytes_eq name (codes "define-fun") then named.DefineFun else
+    if bytes_eq name (codes "assert") then named.Assert else
+    if bytes_eq name (codes "push") then named.Push else
+    if bytes_eq name (codes "pop") then named.Pop else
+    if bytes_eq name (codes "check-sat") then named.CheckSat else
+    if bytes_eq name (codes "get-info") then named.GetInfo else
+    if bytes_eq name (codes "reset") then named.Reset else
+    if bytes_eq name (codes "reset-assertions") then named.ResetAssertions else
+    if bytes_eq name (codes "exit") then named.Exit else
+    if is_in unsupported_names name then named.Unsupported else
+    if is_in foreign_names name then named.Foreign else named.Unknown
 
 unfoldable pub command_named : List ℕ → Named
 command_named name = named_so name

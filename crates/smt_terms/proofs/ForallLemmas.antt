@@ -1,5 +1,5 @@
 -- The parts of a forall.
-use Rattle.std.proofs.Common.{◌≡◌, ℕ, zero, suc, ◌+◌, ◌<◌, Bool, true, false, cond, List, [], ◌∷◌, ◌++◌, map, Result, Ok, Err, refl, sym, ap, subst, ◌∙◌, append_assoc, arith}
+use Rattle.std.proofs.Common.{◌≡◌, ℕ, ◌+◌, ◌<◌, Bool, true, false, cond, List, [], ◌∷◌, ◌++◌, Result, Ok, Err, refl, sym, ap, subst, ◌∙◌, append_assoc, arith}
 use Rattle.std.proofs.lemmas.List.{append-nil, map-append}
 use Rattle.smt_text.specs.Word.{Word}
 use Rattle.smt_text.specs.declared.token.Place.{Place}
@@ -12,9 +12,9 @@ use Rattle.smt_names.specs.declared.syntax_fault.SyntaxFault.{SyntaxFault}
 use Rattle.smt_names.specs.declared.refusal.Refusal.{Refusal}
 use Rattle.smt_names.specs.declared.refusal.Refusal.TheVariants as refusal
 use Rattle.smt_names.specs.Making.{Making, made, then_from, ◌>>◌, ◌>>=◌}
-use Rattle.smt_names.specs.Makes.{Makes, Refuses}
+use Rattle.smt_names.specs.Makes.{Refuses}
 use Rattle.smt_names.specs.Names.{State, Scope, bound_of}
-use Rattle.smt_terms.specs.Meant.{Meant, Meaning, End, Token, Group, from, Listed, exactly, some_bindings, no_binding as refused_binding, other_sort, attributes_of}
+use Rattle.smt_terms.specs.Meant.{Meant, End, Token, Group, from, Listed, exactly, some_bindings, no_binding as refused_binding, other_sort, attributes_of}
 use Rattle.smt_terms.specs.Terms.{variables_from, Attribute, attribute_if, patterns_in, body_of, Body, is_annotation, is_pattern_key, list_value, bound_forall, body_forall, checked_forall}
 use Rattle.smt_terms.specs.Cursor.{word_at, here, is_binding, SeesBinding}
 use Rattle.smt_terms.specs.Bodies.{attribute_at, attributes_at, is_annotated, IsAnnotated, SeesAnnotated}

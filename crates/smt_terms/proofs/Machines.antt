@@ -1,5 +1,5 @@
 -- The steps of the machine leave as much to do as before.
-use Rattle.std.proofs.Common.{◌≡◌, ℕ, zero, suc, ◌+◌, ◌<◌, ◌≤◌, ◌-◌, List, [], ◌∷◌, ◌++◌, length, take, reverse, Vec, Bool, true, false, Result, Ok, Err, sym, ap, ◌∙◌, refl, subst, arith, append_assoc, length-append}
+use Rattle.std.proofs.Common.{◌≡◌, ℕ, ◌+◌, ◌-◌, List, [], ◌∷◌, ◌++◌, length, take, reverse, Vec, false, Result, Ok, Err, sym, ap, ◌∙◌, refl, subst, arith, append_assoc, length-append}
 use Rattle.std.proofs.lemmas.List.{append-nil, reverse-append}
 use Rattle.std.proofs.Math.Seq.{take-append_seam}
 use Rattle.std.specs.declared.alloc.Global.{Global}
@@ -25,7 +25,7 @@ use Rattle.smt_terms.specs.declared.frame.Next.TheVariants as step
 use Rattle.smt_terms.specs.Meant.{Meant, Meaning, End, Token, Group}
 use Rattle.smt_terms.specs.Terms.{value, values, bind, bound_values, token_value}
 use Rattle.smt_terms.specs.Cursor.{word_at, here, is_binding, SeesBinding}
-use Rattle.smt_terms.specs.Machine.{outside, with_bound, applies, binds, takes_by, goes_by, finish, resume, weight, weight_by, load, base_of, scope_of, GoesOn, Gives, PutsIn, binds_in}
+use Rattle.smt_terms.specs.Machine.{outside, with_bound, applies, binds, takes_by, goes_by, finish, resume, weight, load, base_of, scope_of, GoesOn, Gives, PutsIn, binds_in}
 
 abbrev Made : Type 0
 Made = Result (Value × Draft) SyntaxFault

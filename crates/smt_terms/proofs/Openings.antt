@@ -1,6 +1,5 @@
 -- What lists do that begin.
-use Rattle.std.proofs.Common.{◌≡◌, ℕ, ◌+◌, ◌<◌, ◌≤◌, List, [], ◌∷◌, ◌++◌, length, take, reverse, Vec, Bool, true, false, cond, Option, Some, None, is_some, Result, Ok, Err, sym, ap, ◌∙◌, refl, subst, arith}
-use Rattle.std.proofs.lemmas.List.{append-nil}
+use Rattle.std.proofs.Common.{◌≡◌, ℕ, ◌+◌, List, [], ◌∷◌, ◌++◌, length, take, reverse, Vec, true, false, Option, Some, None, is_some, Result, Ok, Err, sym, ap, ◌∙◌, refl, subst, arith}
 use Rattle.std.proofs.Math.Seq.{take-length}
 use Rattle.std.proofs.Math.Path.{fun_ext}
 use Rattle.std.specs.declared.alloc.Global.{Global}
@@ -15,24 +14,22 @@ use Rattle.smt_names.specs.declared.stop.Stop.{Stop}
 use Rattle.smt_names.specs.declared.stop.Stop.TheVariants as stop
 use Rattle.smt_names.specs.declared.syntax_fault.SyntaxFault.{SyntaxFault}
 use Rattle.smt_names.specs.declared.refusal.Refusal.TheVariants as refusal
-use Rattle.smt_names.specs.Making.{Making, made, then_from, ◌>>=◌, fault_of}
-use Rattle.smt_names.specs.Makes.{Refuses, StopsWith}
+use Rattle.smt_names.specs.Making.{Making, then_from, ◌>>=◌, fault_of}
+use Rattle.smt_names.specs.Makes.{Refuses}
 use Rattle.smt_names.specs.Names.{State, Scope, Named, Core, Function, Definition, Unknown, named, named_by, head_of, is_known, is_symbol, bound_as}
-use Rattle.smt_terms.specs.declared.form.Form.{Form}
 use Rattle.smt_terms.specs.declared.form.Form.TheVariants as form
 use Rattle.smt_terms.specs.declared.frame.Frame.{Frame}
-use Rattle.smt_terms.specs.declared.frame.Work.{Work}
-use Rattle.smt_terms.specs.declared.frame.Work.TheVariants.{Apply, Let, Pass}
+use Rattle.smt_terms.specs.declared.frame.Work.TheVariants.{Apply, Pass}
 use Rattle.smt_terms.specs.declared.frame.Inside.{Inside}
 use Rattle.smt_terms.specs.declared.frame.Opened.{Opened}
 use Rattle.smt_terms.specs.declared.frame.Opened.TheVariants as opened
 use Rattle.smt_terms.specs.declared.frame.Next.TheVariants as step
 use Rattle.smt_terms.specs.Meant.{Meant, Meaning, End, Token, Group, Listed, from, exactly, some_bindings, attributes_of}
-use Rattle.smt_terms.specs.Terms.{value, values, bound_values, form_of, form_value, let_value, annotated_value, unbound_value, named_value, list_value, forall_value}
+use Rattle.smt_terms.specs.Terms.{value, values, bound_values, form_of, form_value, let_value, annotated_value, named_value, list_value, forall_value}
 use Rattle.smt_terms.specs.Cursor.{word_at, here, SeesList}
 use Rattle.smt_terms.specs.Checks.{HasBindings}
 use Rattle.smt_forms.specs.Applied.{applied}
-use Rattle.smt_terms.specs.Machine.{outside, with_bound, binds, binds_in, goes_by, finish, resume, weight, load, base_of, scope_of, work_in, GoesOn, Opens, OpensForall}
+use Rattle.smt_terms.specs.Machine.{with_bound, binds, binds_in, finish, resume, weight, load, base_of, scope_of, work_in, GoesOn, Opens, OpensForall}
 use Rattle.smt_terms.proofs.Machines.{pushed, list_begins}
 
 -- a list with an equal meaning opens so too

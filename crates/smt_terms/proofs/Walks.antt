@@ -1,19 +1,15 @@
 -- The steps of going on.
-use Rattle.std.proofs.Common.{◌≡◌, ℕ, ◌+◌, ◌<◌, ◌≤◌, List, [], ◌∷◌, ◌++◌, length, take, reverse, Vec, Bool, true, false, Result, Ok, Err, sym, ap, ◌∙◌, refl, subst, arith}
-use Rattle.std.proofs.lemmas.List.{append-nil}
+use Rattle.std.proofs.Common.{◌≡◌, ℕ, ◌+◌, ◌<◌, ◌≤◌, List, [], ◌∷◌, ◌++◌, reverse, Result, Ok, Err, sym, ap, ◌∙◌, refl, subst, arith}
 use Rattle.smt_text.specs.Word.{Word}
 use Rattle.smt_text.specs.declared.token.Place.{Place}
 use Rattle.formula_shape.specs.Draft.{Draft}
 use Rattle.smt_names.specs.declared.value.Value.{Value}
-use Rattle.smt_names.specs.declared.arg.Arg.{Arg}
 use Rattle.smt_names.specs.declared.bound.Bound.{Bound}
 use Rattle.smt_names.specs.declared.stop.Stop.{Stop}
-use Rattle.smt_names.specs.declared.stop.Stop.TheVariants as stop
-use Rattle.smt_names.specs.declared.syntax_fault.SyntaxFault.{SyntaxFault}
 use Rattle.smt_names.specs.declared.refusal.Refusal.TheVariants as refusal
-use Rattle.smt_names.specs.Making.{Making, made, then_from, fault_of}
-use Rattle.smt_names.specs.Makes.{Refuses, StopsWith}
-use Rattle.smt_names.specs.Names.{State, Scope}
+use Rattle.smt_names.specs.Making.{then_from, fault_of}
+use Rattle.smt_names.specs.Makes.{Refuses}
+use Rattle.smt_names.specs.Names.{State}
 use Rattle.smt_terms.specs.declared.frame.Frame.{Frame}
 use Rattle.smt_terms.specs.declared.frame.Work.{Work}
 use Rattle.smt_terms.specs.declared.frame.Work.TheVariants.{Apply, Let, Pass}
@@ -24,11 +20,10 @@ use Rattle.smt_terms.specs.declared.frame.Next.{Next}
 use Rattle.smt_terms.specs.declared.frame.Next.TheVariants as step
 use Rattle.smt_terms.specs.declared.frame.Walked.{Walked}
 use Rattle.smt_terms.specs.declared.frame.Step.{Step}
-use Rattle.smt_terms.specs.declared.frame.Step.TheVariants as kind
-use Rattle.smt_terms.specs.Meant.{Meant, Meaning, End, Token, Group}
+use Rattle.smt_terms.specs.Meant.{Meant, Meaning, End}
 use Rattle.smt_terms.specs.Terms.{value, token_value, list_value, forall_value}
 use Rattle.smt_terms.specs.Cursor.{word_at, here, SeesList, SeesToken}
-use Rattle.smt_terms.specs.Machine.{outside, goes_by, finish, resume, weight, load, base_of, bound_round, weight_by, scope_of, rest_of, work_of, work_in, given_to, GoesOn, GivesOn, Opens, IsUniversalAt, Advances, Stands, Walks, Progress, Before, Steps, step_of, step_for}
+use Rattle.smt_terms.specs.Machine.{outside, goes_by, finish, resume, weight, load, base_of, bound_round, weight_by, scope_of, rest_of, work_of, work_in, given_to, GivesOn, Opens, IsUniversalAt, Advances, Stands, Walks, Progress, Steps, step_of, step_for}
 use Rattle.smt_terms.proofs.Machines.{pushed, at_token, at_list}
 use Rattle.smt_terms.proofs.Openings.{refuses_same}
 

@@ -1,5 +1,5 @@
 -- What the parts of a forall answer.
-use Rattle.std.specs.Prelude.{◌≡◌, ℕ, ◌+◌, ◌<◌, ◌^◌, Bool, true, false, List, map, length, Result, Ok, Err}
+use Rattle.std.specs.Prelude.{◌≡◌, ℕ, ◌+◌, Bool, true, false, List, map, Result, Ok, Err}
 use Rattle.smt_text.specs.Word.{Word}
 use Rattle.formula_shape.specs.Draft.{Draft}
 use Rattle.smt_names.specs.declared.stop.Stop.{Stop}

@@ -7,7 +7,7 @@ use Rattle.smt_text.specs.declared.token.Kind.TheVariants.{Symbol, Left, Right}
 use Rattle.smt_terms.specs.declared.cursor.Seen.{Seen}
 use Rattle.smt_terms.specs.declared.cursor.Seen.TheVariants as seen
 use Rattle.smt_terms.specs.declared.cursor.Binding.{Binding}
-use Rattle.smt_terms.specs.Meant.{Meant, End, Token, Group, from}
+use Rattle.smt_terms.specs.Meant.{Meant, End, Token, Group}
 use Rattle.smt_terms.specs.Terms.{meant, list_value}
 
 abbrev pub nowhere : Word

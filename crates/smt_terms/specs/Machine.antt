@@ -1,5 +1,5 @@
 -- Lists that are open while a term is elaborated, and what is left to do for them.
-use Rattle.std.specs.Prelude.{◌≡◌, ℕ, ◌+◌, ◌≤◌, ◌<◌, List, [], ◌∷◌, ◌++◌, length, reverse, take, Bool, true, false, Option, Some, None, Result, Ok, Err}
+use Rattle.std.specs.Prelude.{◌≡◌, ℕ, ◌+◌, ◌≤◌, ◌<◌, List, [], ◌∷◌, ◌++◌, length, reverse, take, true, false, Option, Some, None, Result, Ok, Err}
 use Rattle.smt_text.specs.Word.{Word}
 use Rattle.smt_text.specs.declared.token.Place.{Place}
 use Rattle.term_table.specs.declared.memory.Memory.{Memory}

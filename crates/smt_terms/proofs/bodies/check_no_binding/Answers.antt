@@ -1,4 +1,4 @@
-use Rattle.std.proofs.Common.{◌≡◌, ap, ◌∙◌}
+use Rattle.std.proofs.Common.{ap}
 use Rattle.smt_terms.specs.Meant.{Meant, no_binding}
 use Rattle.smt_terms.specs.Cursor.{word_at, here}
 use Rattle.smt_terms.proofs.CheckLemmas.{refuses_at}

@@ -1,4 +1,4 @@
-use Rattle.std.proofs.Common.{◌≡◌, ◌+◌, sym, ap, ◌∙◌}
+use Rattle.std.proofs.Common.{sym, ap, ◌∙◌}
 use Rattle.smt_text.specs.Word.{Word}
 use Rattle.smt_names.specs.Names.{other_sort_of_token, word_of}
 use Rattle.smt_terms.specs.Meant.{Meant, other_sort}

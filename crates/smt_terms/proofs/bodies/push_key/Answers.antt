@@ -1,7 +1,7 @@
 use Rattle.std.proofs.Common.{sym, ◌∙◌}
 use Rattle.smt_terms.specs.Terms.{is_pattern_key}
 use Rattle.smt_terms.specs.Cursor.{word_at}
-use Rattle.smt_terms.proofs.ForallLemmas.{pushed_key, no_key}
+use Rattle.smt_terms.proofs.ForallLemmas.{no_key}
 use Rattle.smt_terms.proofs.bodies.push_key.Goals as goal
 
 pub returns-then-not-has_pattern_key : goal.returns-then-not-has_pattern_key

@@ -1,4 +1,4 @@
-use Rattle.std.proofs.Common.{◌≡◌, ◌+◌, sym, ap, ◌∙◌}
+use Rattle.std.proofs.Common.{◌+◌, sym, ap, ◌∙◌}
 use Rattle.smt_text.specs.declared.token.Place.{Place}
 use Rattle.smt_names.specs.Making.{then_from}
 use Rattle.smt_terms.specs.Meant.{exactly, new_binding, binding_name}

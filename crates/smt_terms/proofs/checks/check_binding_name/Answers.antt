@@ -1,8 +1,7 @@
-use Rattle.std.proofs.Common.{◌≡◌, ◌+◌, sym, ap, subst, ◌∙◌, Ok, List, ℕ}
+use Rattle.std.proofs.Common.{◌+◌, sym, ap, ◌∙◌, List, ℕ}
 use Rattle.std.specs.List.{list_any}
 use Rattle.std.proofs.Common.{bytes_eq}
 use Rattle.smt_text.specs.Word.{Word}
-use Rattle.formula_shape.specs.Draft.{Draft}
 use Rattle.smt_names.specs.Names.{lawful_name}
 use Rattle.smt_terms.specs.Cursor.{word_at, here}
 use Rattle.smt_terms.proofs.CheckLemmas.{same_word, name_new, name_old}

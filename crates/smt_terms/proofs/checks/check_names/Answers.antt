@@ -1,5 +1,4 @@
-use Rattle.std.proofs.Common.{◌≡◌, ◌+◌, sym, ap, ◌∙◌, List, ℕ}
-use Rattle.smt_names.specs.Making.{then_from}
+use Rattle.std.proofs.Common.{◌+◌, sym, ap, ◌∙◌, List, ℕ}
 use Rattle.smt_terms.specs.Meant.{binding_name, bindings_after}
 use Rattle.smt_terms.specs.Cursor.{word_at, here}
 use Rattle.smt_terms.proofs.CheckLemmas.{passes_binding, binding_refused, refuses_as, weighs_list}

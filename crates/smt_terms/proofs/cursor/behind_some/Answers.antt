@@ -1,4 +1,4 @@
-use Rattle.std.proofs.Common.{ap, sym, ◌∙◌, arith, refl, ◌≡◌}
+use Rattle.std.proofs.Common.{ap, sym, ◌∙◌, arith, ◌≡◌}
 use Rattle.smt_terms.specs.Meant.{from}
 use Rattle.smt_terms.specs.Cursor.{here}
 use Rattle.smt_terms.proofs.CursorLemmas.{from_more}

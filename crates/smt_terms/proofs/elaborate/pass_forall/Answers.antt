@@ -1,4 +1,4 @@
-use Rattle.std.proofs.Common.{◌≡◌, refl, ap, reverse}
+use Rattle.std.proofs.Common.{refl}
 use Rattle.smt_terms.proofs.Walks.{forall_refused, forall_gives, forall_less, gave, advances_by, gives_on_from}
 use Rattle.smt_terms.proofs.elaborate.pass_forall.Goals as goal
 

@@ -1,4 +1,4 @@
-use Rattle.std.proofs.Common.{◌≡◌, ◌+◌, sym, ap, ◌∙◌}
+use Rattle.std.proofs.Common.{◌+◌, sym, ap, ◌∙◌}
 use Rattle.smt_text.specs.declared.token.Place.{Place}
 use Rattle.smt_terms.specs.Meant.{exactly, some_bindings, from}
 use Rattle.smt_terms.specs.Terms.{checked_forall, bound_forall}

@@ -1,6 +1,4 @@
-use Rattle.std.proofs.Common.{sym, ◌∙◌, arith, Ok}
-use Rattle.smt_terms.specs.declared.frame.Given.{Given}
-use Rattle.smt_terms.specs.declared.frame.Given.TheVariants.{At}
+use Rattle.std.proofs.Common.{◌∙◌, arith}
 use Rattle.smt_terms.proofs.Machines.{gives_at}
 use Rattle.smt_terms.proofs.giving.give.Goals as goal
 

@@ -1,4 +1,4 @@
-use Rattle.std.proofs.Common.{◌≡◌, ◌+◌, sym, ap, ◌∙◌, arith}
+use Rattle.std.proofs.Common.{◌+◌, sym, ap}
 use Rattle.smt_text.specs.declared.token.Place.{Place}
 use Rattle.smt_terms.specs.Meant.{attributes_of}
 use Rattle.smt_terms.specs.Terms.{annotated_value, value}

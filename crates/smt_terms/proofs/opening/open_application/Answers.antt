@@ -1,6 +1,5 @@
-use Rattle.std.proofs.Common.{◌≡◌, ◌+◌, sym, ap, ◌∙◌, List, ℕ}
+use Rattle.std.proofs.Common.{sym, ap, ◌∙◌}
 use Rattle.smt_names.specs.Names.{bound_as, head_of}
-use Rattle.smt_terms.specs.Cursor.{word_at}
 use Rattle.smt_terms.proofs.Openings.{opens_application}
 use Rattle.smt_terms.proofs.opening.open_application.Goals as goal
 

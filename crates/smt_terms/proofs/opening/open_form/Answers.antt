@@ -1,4 +1,4 @@
-use Rattle.std.proofs.Common.{◌≡◌, ◌+◌, ◌*◌, sym, ap, ◌∙◌}
+use Rattle.std.proofs.Common.{◌+◌, sym, ap, ◌∙◌}
 use Rattle.smt_terms.specs.declared.form.Form.TheVariants.{Application}
 use Rattle.smt_terms.specs.Terms.{form_of, form_value, let_value, annotated_value}
 use Rattle.smt_terms.specs.Cursor.{word_at, here}

@@ -1,7 +1,6 @@
-use Rattle.std.proofs.Common.{◌≡◌, ◌+◌, sym, ap, ◌∙◌}
+use Rattle.std.proofs.Common.{◌+◌, sym, ap}
 use Rattle.smt_terms.proofs.opening.open_let.Goals as goal
 use Rattle.smt_text.specs.declared.token.Place.{Place}
-use Rattle.smt_names.specs.Making.{then_from}
 use Rattle.smt_terms.specs.Cursor.{word_at, here}
 use Rattle.smt_terms.specs.Machine.{scope_of}
 use Rattle.smt_terms.specs.Terms.{let_value}

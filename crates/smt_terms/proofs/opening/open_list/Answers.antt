@@ -1,4 +1,4 @@
-use Rattle.std.proofs.Common.{◌≡◌, ◌+◌, sym, ap, ◌∙◌, ℕ, arith}
+use Rattle.std.proofs.Common.{◌+◌, sym, ap, ◌∙◌, ℕ, arith}
 use Rattle.smt_terms.specs.Meant.{Token}
 use Rattle.smt_names.specs.declared.refusal.Refusal.TheVariants as refusal
 use Rattle.smt_names.specs.Names.{is_symbol}
