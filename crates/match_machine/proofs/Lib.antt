@@ -4,3 +4,4 @@ pub mod StepLemmas
 pub mod SpreadLemmas
 pub mod WalkLemmas
 pub mod OrderLemmas
+pub mod RunLemmas

@@ -1,2 +1,5 @@
 pub mod Walk
 pub mod Order
+pub mod Told
+pub mod Answers
+pub mod Runs
