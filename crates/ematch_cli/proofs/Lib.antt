@@ -6,6 +6,7 @@ pub mod OneAnswer
 pub mod Reached
 pub mod Exits
 pub mod Entering
+pub mod EnteredTerms
 pub mod LevelLemmas
 pub mod Numbered
 pub mod Steps

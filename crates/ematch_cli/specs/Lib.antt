@@ -5,6 +5,8 @@ pub mod Writing
 pub mod Listing
 pub mod Run
 pub mod Entered
+pub mod GraphTerms
+pub mod GraphTermsLaws
 pub mod Status
 pub mod Words
 pub mod ErrorLine

@@ -3,6 +3,7 @@
 
 mod entry;
 mod error_line;
+mod graph_terms;
 mod laws;
 mod listing;
 mod printed;

@@ -1,5 +1,6 @@
 ghost use Rattle.em_outside.specs.Limits.{AreLawful};
 
+mod entering;
 mod graphs;
 
 use super::*;
