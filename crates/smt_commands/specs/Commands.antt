@@ -15,7 +15,7 @@ use Rattle.smt_names.specs.declared.stands.Stands.TheVariants.{Given, Variable}
 use Rattle.smt_names.specs.Value.{sort_of, self}
 use Rattle.smt_names.specs.Making.{Making, made, ◌>>=◌, ◌>>◌, want, bad_form, not_in_profile}
 use Rattle.smt_names.specs.Names.{State, Scope, with_sort, with_function, is_symbol, is_keyword, is_numeral, is_wide, number_of, new_function_name, new_sort_name, at_start, cleared, pushed, popped}
-use Rattle.smt_terms.specs.Meant.{Meant, End, Token, Group, from, first_place, no_more, at_most, at_least, exactly, token_first, list_first, sort_first, other_sort, bindings_after, no_binding}
+use Rattle.smt_terms.specs.Meant.{Meant, Listed, End, Token, Group, from, first_place, no_more, at_most, at_least, exactly, token_first, list_first, sort_first, other_sort, bindings_after, no_binding}
 use Rattle.smt_terms.specs.Terms.{value, truth, meant, variables_from}
 use Rattle.smt_commands.specs.declared.command.Command.{Command}
 use Rattle.smt_commands.specs.declared.command.Command.TheVariants.{Silent, Unsupported, Assert, Push, Pop, CheckSat, GetInfo, Reset, ResetAssertions, Exit}
@@ -105,14 +105,25 @@ set_info state head parts = do
   plain_value (from 1 parts)
   silent state
 
+-- the number of arguments of a sort, which must be 0
+abbrev pub no_arguments : Place → Meant → Making (Unit {0})
+no_arguments head parts = do
+  n ← numeral_first head parts
+  want (n == 0) refusal.NotInProfile (first_place head parts)
+
+-- the first part, which may be the name of a sort
+abbrev pub new_sort : State → Place → Meant → Making Word
+new_sort state head parts = do
+  name ← token_first head parts
+  new_sort_name state name
+  made name
+
 -- (declare-sort s n)
 abbrev pub declare_sort : State → Place → Meant → Making Answer
 declare_sort state head parts = do
   exactly 2 head parts
-  name ← token_first head parts
-  new_sort_name state name
-  n ← numeral_first head (from 1 parts)
-  want (n == 0) refusal.NotInProfile (first_place head (from 1 parts))
+  name ← new_sort state head parts
+  no_arguments head (from 1 parts)
   silent (with_sort name.text state)
 
 -- sorts other than Bool, to the end of a list
@@ -130,24 +141,40 @@ other_sorts state paren (Group p meaning inner trees) = do
 abbrev pub signature : List ℕ → ℕ → Signature
 signature arguments sort = record { arguments = arguments; sort = sort }
 
+-- the first part, which may be the name of a function
+abbrev pub new_function : State → Place → Meant → Making Word
+new_function state head parts = do
+  name ← token_first head parts
+  new_function_name state name
+  made name
+
+-- at most 255 sorts of arguments
+abbrev pub argument_sorts : State → Listed → Making (List ℕ)
+argument_sorts state listed = do
+  no_more refusal.TooManyArguments (from 255 listed.inner)
+  other_sorts state listed.paren.place listed.inner
+
+-- the sorts of a function: a list of those of its arguments, and behind it its own
+abbrev pub signature_first : State → Place → Meant → Making Signature
+signature_first state head parts = do
+  listed ← list_first head parts
+  arguments ← argument_sorts state listed
+  sort ← sort_first state head (from 1 parts)
+  made (signature arguments sort)
+
 -- (declare-fun s (S1 .. Sn) S)
 abbrev pub declare_fun : State → Place → Meant → Making Answer
 declare_fun state head parts = do
   exactly 3 head parts
-  name ← token_first head parts
-  new_function_name state name
-  listed ← list_first head (from 1 parts)
-  no_more refusal.TooManyArguments (from 255 listed.inner)
-  arguments ← other_sorts state listed.paren.place listed.inner
-  sort ← sort_first state head (from 2 parts)
-  silent (with_function name.text (signature arguments sort) state)
+  name ← new_function state head parts
+  sorts ← signature_first state head (from 1 parts)
+  silent (with_function name.text sorts state)
 
 -- (declare-const s S)
 abbrev pub declare_const : State → Place → Meant → Making Answer
 declare_const state head parts = do
   exactly 2 head parts
-  name ← token_first head parts
-  new_function_name state name
+  name ← new_function state head parts
   sort ← sort_first state head (from 1 parts)
   silent (with_function name.text (signature [] sort) state)
 
@@ -173,8 +200,7 @@ inside_definition state parameters = record { state = state; bound = parameters;
 abbrev pub define_fun : State → Place → Meant → Making Answer
 define_fun state head parts = do
   exactly 4 head parts
-  name ← token_first head parts
-  new_function_name state name
+  name ← new_function state head parts
   listed ← list_first head (from 1 parts)
   bindings_after [] listed.inner
   no_binding refusal.TooManyArguments (from 255 listed.inner)
@@ -317,6 +343,10 @@ abbrev pub without_draft : Result (Answer × Draft) SyntaxFault → Result Answe
 without_draft (Ok done) = Ok done.0
 without_draft (Err fault) = Err fault
 
+-- What is answered in a state, where no shape is begun.
+abbrev pub begun : State → Making Answer → Result Answer SyntaxFault
+begun state making = without_draft (making (empty_draft state.limits.terms state.limits.nodes))
+
 -- What a command, a list of tokens, answers in a state, or its first refusal.
 unfoldable pub elaborate : State → List Word → Result Answer SyntaxFault
-elaborate state words = without_draft (command_at state (meant (tree_of words)) (empty_draft state.limits.terms state.limits.nodes))
+elaborate state words = begun state (command_at state (meant (tree_of words)))

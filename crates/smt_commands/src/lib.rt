@@ -4,6 +4,7 @@
 mod command;
 mod info;
 mod named;
+mod parts;
 
 pub use command::Command;
 pub use info::Info;
