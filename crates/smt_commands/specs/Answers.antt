@@ -1,5 +1,10 @@
 -- What calls answer that read commands.
-use Rattle.std.specs.Prelude.{◌≡◌, Result, Ok, Err}
+use Rattle.std.specs.Prelude.{◌≡◌, ℕ, List, Result, Ok, Err}
+use Rattle.smt_text.specs.Word.{Word}
+use Rattle.formula_shape.specs.Draft.{Draft}
+use Rattle.smt_names.specs.Making.{Making}
+use Rattle.smt_terms.specs.Meant.{Listed}
+use Rattle.smt_terms.specs.Cursor.{word_at, here}
 use Rattle.smt_names.specs.declared.stop.Stop.{Stop}
 use Rattle.smt_names.specs.declared.syntax_fault.SyntaxFault.{SyntaxFault}
 use Rattle.smt_names.specs.Makes.{Refuses}
@@ -11,3 +16,8 @@ use Rattle.smt_commands.specs.Commands.{Answer}
 abbrev pub Answers : Result Command Stop → (new : State) → Result Answer SyntaxFault → Type 0
 Answers (Ok command) new defined = defined ≡ Ok (record { command = command; state = new })
 Answers (Err stopped) new defined = Refuses stopped defined
+
+-- a list comes next, in which the trees from this place on stand
+abbrev pub HasList : List Word → ℕ → Result ℕ Stop → Making Listed → Type 0
+HasList words i (Ok inner) making = (draft : Draft) → making draft ≡ Ok (record { paren = word_at words i; inner = here words inner }, draft)
+HasList words i (Err stopped) making = (draft : Draft) → Refuses stopped (making draft)

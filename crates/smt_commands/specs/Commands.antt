@@ -63,24 +63,35 @@ numeral_first head parts = do
   made (number_of word)
 
 -- Commands.
+-- one symbol
+abbrev pub logic_form : Place → Meant → Making (Unit {0})
+logic_form head parts = do
+  exactly 1 head parts
+  symbol_first head parts
+  made tt
+
 -- (set-logic s)
 abbrev pub set_logic : State → Place → Meant → Making Answer
 set_logic state head parts = do
-  exactly 1 head parts
-  symbol_first head parts
+  logic_form head parts
   silent state
 
--- what :print-success is set to
-abbrev pub set_success : State → Word → Making Answer
-set_success state v =
-    if bytes_eq v.text (codes "true") then silent (record state { prints_success = true }) else
-    if bytes_eq v.text (codes "false") then silent (record state { prints_success = false }) else bad_form v.place
+-- true or false
+abbrev pub truth_named : Word → Making Bool
+truth_named v =
+    if bytes_eq v.text (codes "true") then made true else
+    if bytes_eq v.text (codes "false") then made false else bad_form v.place
+
+abbrev pub truth_first : Place → Meant → Making Bool
+truth_first head parts = do
+  v ← symbol_first head parts
+  truth_named v
 
 -- (set-option :print-success v)
 abbrev pub set_print_success : State → Place → Meant → Making Answer
 set_print_success state head parts = do
-  v ← symbol_first head parts
-  set_success state v
+  prints ← truth_first head parts
+  silent (record state { prints_success = prints })
 
 -- an option that is not supported
 abbrev pub set_other : State → Meant → Making Answer
@@ -88,21 +99,33 @@ set_other state parts = do
   plain_value parts
   answer state Unsupported
 
+abbrev pub set_by : State → Place → Meant → (is_success : Bool) → Making Answer
+set_by state head parts true = set_print_success state head parts
+set_by state head parts false = set_other state parts
+
+-- a keyword, and perhaps one part more
+abbrev pub key_form : Place → Meant → Making Word
+key_form head parts = do
+  at_least 1 head parts
+  at_most 2 parts
+  keyword_first head parts
+
 -- (set-option :k v)
 abbrev pub set_option : State → Place → Meant → Making Answer
 set_option state head parts = do
-  at_least 1 head parts
-  at_most 2 parts
-  key ← keyword_first head parts
-  if bytes_eq key.text (codes ":print-success") then set_print_success state head (from 1 parts) else set_other state (from 1 parts)
+  key ← key_form head parts
+  set_by state head (from 1 parts) (bytes_eq key.text (codes ":print-success"))
+
+-- a keyword, and perhaps its value
+abbrev pub info_form : Place → Meant → Making (Unit {0})
+info_form head parts = do
+  key_form head parts
+  plain_value (from 1 parts)
 
 -- (set-info :k v)
 abbrev pub set_info : State → Place → Meant → Making Answer
 set_info state head parts = do
-  at_least 1 head parts
-  at_most 2 parts
-  keyword_first head parts
-  plain_value (from 1 parts)
+  info_form head parts
   silent state
 
 -- the number of arguments of a sort, which must be 0
@@ -118,12 +141,18 @@ new_sort state head parts = do
   new_sort_name state name
   made name
 
--- (declare-sort s n)
-abbrev pub declare_sort : State → Place → Meant → Making Answer
-declare_sort state head parts = do
+-- a new name and 0
+abbrev pub sort_form : State → Place → Meant → Making Word
+sort_form state head parts = do
   exactly 2 head parts
   name ← new_sort state head parts
   no_arguments head (from 1 parts)
+  made name
+
+-- (declare-sort s n)
+abbrev pub declare_sort : State → Place → Meant → Making Answer
+declare_sort state head parts = do
+  name ← sort_form state head parts
   silent (with_sort name.text state)
 
 -- sorts other than Bool, to the end of a list
@@ -148,33 +177,42 @@ new_function state head parts = do
   new_function_name state name
   made name
 
+-- so many parts, of which the first may be the name of a function
+abbrev pub named_form : ℕ → State → Place → Meant → Making Word
+named_form n state head parts = do
+  exactly n head parts
+  new_function state head parts
+
 -- at most 255 sorts of arguments
 abbrev pub argument_sorts : State → Listed → Making (List ℕ)
 argument_sorts state listed = do
   no_more refusal.TooManyArguments (from 255 listed.inner)
   other_sorts state listed.paren.place listed.inner
 
+-- the list of the sorts of arguments that a first tree must be
+abbrev pub arguments_first : State → Place → Meant → Making (List ℕ)
+arguments_first state head parts = do
+  listed ← list_first head parts
+  argument_sorts state listed
+
 -- the sorts of a function: a list of those of its arguments, and behind it its own
 abbrev pub signature_first : State → Place → Meant → Making Signature
 signature_first state head parts = do
-  listed ← list_first head parts
-  arguments ← argument_sorts state listed
+  arguments ← arguments_first state head parts
   sort ← sort_first state head (from 1 parts)
   made (signature arguments sort)
 
 -- (declare-fun s (S1 .. Sn) S)
 abbrev pub declare_fun : State → Place → Meant → Making Answer
 declare_fun state head parts = do
-  exactly 3 head parts
-  name ← new_function state head parts
+  name ← named_form 3 state head parts
   sorts ← signature_first state head (from 1 parts)
   silent (with_function name.text sorts state)
 
 -- (declare-const s S)
 abbrev pub declare_const : State → Place → Meant → Making Answer
 declare_const state head parts = do
-  exactly 2 head parts
-  name ← new_function state head parts
+  name ← named_form 2 state head parts
   sort ← sort_first state head (from 1 parts)
   silent (with_function name.text (signature [] sort) state)
 
@@ -199,8 +237,7 @@ inside_definition state parameters = record { state = state; bound = parameters;
 -- (define-fun s ((x1 S1) ..) S t)
 abbrev pub define_fun : State → Place → Meant → Making Answer
 define_fun state head parts = do
-  exactly 4 head parts
-  name ← new_function state head parts
+  name ← named_form 4 state head parts
   listed ← list_first head (from 1 parts)
   bindings_after [] listed.inner
   no_binding refusal.TooManyArguments (from 255 listed.inner)
@@ -230,23 +267,39 @@ levels_asked head End = made 1
 levels_asked head (Token word trees) = numeral_first head (Token word trees)
 levels_asked head (Group paren meaning inner trees) = bad_form paren.place
 
+-- at most one part, how many levels are asked for
+abbrev pub level_form : Place → Meant → Making ℕ
+level_form head parts = do
+  at_most 1 parts
+  levels_asked head parts
+
+-- as many levels as may be opened
+abbrev pub push_form : State → Place → Meant → Making ℕ
+push_form state head parts = do
+  n ← level_form head parts
+  want (nat_le (length state.levels + n) state.limits.levels) refusal.LevelsFull (first_place head parts)
+  made n
+
 -- (push n)
 abbrev pub push_levels : State → Place → Meant → Making Answer
 push_levels state head parts = do
-  at_most 1 parts
-  n ← levels_asked head parts
-  want (nat_le (length state.levels + n) state.limits.levels) refusal.LevelsFull (first_place head parts)
+  n ← push_form state head parts
   answer (pushed n state) (Push n)
+
+-- as many levels as may be closed
+abbrev pub pop_form : State → Place → Meant → Making ℕ
+pop_form state head parts = do
+  n ← level_form head parts
+  want (nat_le n (length state.levels)) refusal.PopTooFar (first_place head parts)
+  made n
 
 -- (pop n)
 abbrev pub pop_levels : State → Place → Meant → Making Answer
 pop_levels state head parts = do
-  at_most 1 parts
-  n ← levels_asked head parts
-  want (nat_le n (length state.levels)) refusal.PopTooFar (first_place head parts)
+  n ← pop_form state head parts
   answer (popped n state) (Pop n)
 
-abbrev pub info_of : List ℕ → Info
+unfoldable pub info_of : List ℕ → Info
 info_of key =
     if bytes_eq key (codes ":name") then info.Name else
     if bytes_eq key (codes ":version") then info.Version else
@@ -255,11 +308,16 @@ info_of key =
     if bytes_eq key (codes ":assertion-stack-levels") then info.Levels else
     if bytes_eq key (codes ":reason-unknown") then info.ReasonUnknown else info.Other
 
+-- one keyword
+abbrev pub asked_form : Place → Meant → Making Word
+asked_form head parts = do
+  exactly 1 head parts
+  keyword_first head parts
+
 -- (get-info :k)
 abbrev pub get_info : State → Place → Meant → Making Answer
 get_info state head parts = do
-  exactly 1 head parts
-  key ← keyword_first head parts
+  key ← asked_form head parts
   answer state (GetInfo (info_of key.text))
 
 -- a command without parts
