@@ -14,6 +14,7 @@ use Rattle.smt_names.specs.Making.{Making, then_from, ◌>>=◌, fault_of, want}
 use Rattle.smt_names.specs.Makes.{Makes, Refuses, StopsWith}
 use Rattle.smt_names.specs.Names.{State, word_of}
 use Rattle.smt_commands.specs.declared.command.Command.{Command}
+use Rattle.smt_terms.specs.Checks.{ChecksAs}
 use Rattle.smt_commands.specs.Answers.{Answers}
 use Rattle.smt_commands.specs.Commands.{Answer, begun, without_draft}
 
@@ -34,6 +35,17 @@ module _ {A B : Type 0} (rest : A → Making B) where
   -- what follows a step
   pub made_after : (first : Result (A × Draft) SyntaxFault) (value : A) (later : Draft) → first ≡ Ok (value, later) → then_from rest first ≡ rest value later
   made_after first value later is = ap (then_from rest) is
+
+  -- a call that does what follows a step does the whole
+  pub makes_after : (result : Result B Stop) (first : Making A) (value : A) (old later new : Draft) → first old ≡ Ok (value, later) → Makes result later new (rest value) → Makes result old new (first >>= rest)
+  makes_after (Ok found) first value old later new is makes = ap (then_from rest) is ∙ makes
+  makes_after (Err stop.Memory) first value old later new is makes = tt {0}
+  makes_after (Err (stop.Refused fault)) first value old later new is makes = ap (then_from rest) is ∙ makes
+
+  -- the same of a call that checks
+  pub checks_after : (result : Result (Unit {0}) Stop) (first : Making A) (value : A) (found : B) → ((draft : Draft) → first draft ≡ Ok (value, draft)) → ChecksAs result found (rest value) → ChecksAs result found (first >>= rest)
+  checks_after (Ok done) first value found is checks = λ draft. ap (then_from rest) (is draft) ∙ checks draft
+  checks_after (Err stopped) first value found is checks = λ draft. refused_after stopped (first draft) value draft (is draft) (checks draft)
 
 -- a test that fails
 pub unwanted : (stopped : Stop) (test : Bool) (refusal : Refusal) (a b : Place) (draft : Draft) → StopsWith stopped (fault_of refusal a []) → a ≡ b → test ≡ false → Refuses stopped (want test refusal b draft)

@@ -64,11 +64,10 @@ numeral_first head parts = do
 
 -- Commands.
 -- one symbol
-abbrev pub logic_form : Place → Meant → Making (Unit {0})
+abbrev pub logic_form : Place → Meant → Making Word
 logic_form head parts = do
   exactly 1 head parts
   symbol_first head parts
-  made tt
 
 -- (set-logic s)
 abbrev pub set_logic : State → Place → Meant → Making Answer
@@ -104,10 +103,14 @@ set_by state head parts true = set_print_success state head parts
 set_by state head parts false = set_other state parts
 
 -- a keyword, and perhaps one part more
-abbrev pub key_form : Place → Meant → Making Word
-key_form head parts = do
+abbrev pub one_or_two : Place → Meant → Making (Unit {0})
+one_or_two head parts = do
   at_least 1 head parts
   at_most 2 parts
+
+abbrev pub key_form : Place → Meant → Making Word
+key_form head parts = do
+  one_or_two head parts
   keyword_first head parts
 
 -- (set-option :k v)
@@ -141,13 +144,17 @@ new_sort state head parts = do
   new_sort_name state name
   made name
 
+abbrev pub plain_sort : State → Place → Meant → Making Word
+plain_sort state head parts = do
+  name ← new_sort state head parts
+  no_arguments head (from 1 parts)
+  made name
+
 -- a new name and 0
 abbrev pub sort_form : State → Place → Meant → Making Word
 sort_form state head parts = do
   exactly 2 head parts
-  name ← new_sort state head parts
-  no_arguments head (from 1 parts)
-  made name
+  plain_sort state head parts
 
 -- (declare-sort s n)
 abbrev pub declare_sort : State → Place → Meant → Making Answer
@@ -209,12 +216,18 @@ declare_fun state head parts = do
   sorts ← signature_first state head (from 1 parts)
   silent (with_function name.text sorts state)
 
+-- the sorts of a constant: its own, which a first tree must name
+abbrev pub constant_first : State → Place → Meant → Making Signature
+constant_first state head parts = do
+  sort ← sort_first state head parts
+  made (signature [] sort)
+
 -- (declare-const s S)
 abbrev pub declare_const : State → Place → Meant → Making Answer
 declare_const state head parts = do
   name ← named_form 2 state head parts
-  sort ← sort_first state head (from 1 parts)
-  silent (with_function name.text (signature [] sort) state)
+  sorts ← constant_first state head (from 1 parts)
+  silent (with_function name.text sorts state)
 
 -- the sorts of variables
 abbrev pub sort_of_bound : Stands → ℕ
@@ -234,18 +247,34 @@ defined state name parameters sort v draft = silent (record state {
 abbrev pub inside_definition : State → List Bound → Scope
 inside_definition state parameters = record { state = state; bound = parameters; in_forall = false; in_definition = true }
 
+-- the list of parameters that a first tree must be, of which there are at most 255
+abbrev pub parameters_first : State → Place → Meant → Making (List Bound)
+parameters_first state head parts = do
+  listed ← list_first head parts
+  bindings_after [] listed.inner
+  no_binding refusal.TooManyArguments (from 255 listed.inner)
+  variables_from state 0 listed.inner
+
+-- the value of a definition, which must have its sort
+abbrev pub defined_value : State → Place → List Bound → (sort : ℕ) → Meant → Making Value
+defined_value state head parameters sort parts = do
+  v ← value head (inside_definition state parameters) parts
+  want (sort_of v == sort) refusal.WrongSort (first_place head parts)
+  made v
+
+-- what is defined of these parameters
+abbrev pub defined_by : State → Place → (name : List ℕ) → List Bound → (sorted given : Meant) → Making Answer
+defined_by state head name parameters sorted given = do
+  sort ← sort_first state head sorted
+  v ← defined_value state head parameters sort given
+  defined state name parameters sort v
+
 -- (define-fun s ((x1 S1) ..) S t)
 abbrev pub define_fun : State → Place → Meant → Making Answer
 define_fun state head parts = do
   name ← named_form 4 state head parts
-  listed ← list_first head (from 1 parts)
-  bindings_after [] listed.inner
-  no_binding refusal.TooManyArguments (from 255 listed.inner)
-  parameters ← variables_from state 0 listed.inner
-  sort ← sort_first state head (from 2 parts)
-  v ← value head (inside_definition state parameters) (from 3 parts)
-  want (sort_of v == sort) refusal.WrongSort (first_place head (from 3 parts))
-  defined state name.text parameters sort v
+  parameters ← parameters_first state head (from 1 parts)
+  defined_by state head name.text parameters (from 2 parts) (from 3 parts)
 
 abbrev pub asserted : State → Value → Making Answer
 asserted state v draft = answer state (Assert (finished draft (self v))) draft
@@ -258,8 +287,7 @@ outside state = record { state = state; bound = []; in_forall = false; in_defini
 abbrev pub assert_truth : State → Place → Meant → Making Answer
 assert_truth state head parts = do
   exactly 1 head parts
-  v ← truth head (outside state) parts
-  asserted state v
+  truth head (outside state) parts >>= asserted state
 
 -- how many levels are asked for, 1 where no number stands
 abbrev pub levels_asked : Place → Meant → Making ℕ

@@ -2,9 +2,11 @@
 #![tactic(auto)]
 
 mod command;
+mod declaring;
 mod info;
 mod named;
 mod parts;
+mod reading;
 
 pub use command::Command;
 pub use info::Info;
