@@ -10,8 +10,8 @@ use Rattle.smt_names.specs.declared.stop.Stop.TheVariants as stop
 use Rattle.smt_names.specs.declared.syntax_fault.SyntaxFault.{SyntaxFault}
 use Rattle.formula_shape.specs.Draft.{empty_draft}
 use Rattle.smt_names.specs.declared.refusal.Refusal.{Refusal}
-use Rattle.smt_names.specs.Making.{Making, then_from, ◌>>=◌, fault_of, want}
-use Rattle.smt_names.specs.Makes.{Makes, Refuses, StopsWith}
+use Rattle.smt_names.specs.Making.{Making, made, then_from, ◌>>=◌, fault_of, want}
+use Rattle.smt_names.specs.Makes.{Checks, Makes, Refuses, StopsWith}
 use Rattle.smt_names.specs.Names.{State, word_of}
 use Rattle.smt_commands.specs.declared.command.Command.{Command}
 use Rattle.smt_terms.specs.Checks.{ChecksAs}
@@ -21,6 +21,10 @@ use Rattle.smt_commands.specs.Commands.{Answer, begun, without_draft}
 -- a token, by what calls told of it
 pub same_word : (w : Word) (k : Kind) (p : Place) (t : List ℕ) → k ≡ w.kind → p ≡ w.place → t ≡ w.text → word_of k p t ≡ w
 same_word w k p t ek ep et = rw (ek, ep, et) refl
+
+-- an answer with the state after it
+abbrev pub answered : Command → State → Result Answer SyntaxFault
+answered command state = Ok (record { command = command; state = state })
 
 module _ {A B : Type 0} (rest : A → Making B) where
   -- a refusal stays
@@ -46,6 +50,15 @@ module _ {A B : Type 0} (rest : A → Making B) where
   pub checks_after : (result : Result (Unit {0}) Stop) (first : Making A) (value : A) (found : B) → ((draft : Draft) → first draft ≡ Ok (value, draft)) → ChecksAs result found (rest value) → ChecksAs result found (first >>= rest)
   checks_after (Ok done) first value found is checks = λ draft. ap (then_from rest) (is draft) ∙ checks draft
   checks_after (Err stopped) first value found is checks = λ draft. refused_after stopped (first draft) value draft (is draft) (checks draft)
+
+-- a check, and then what was found before it
+pub checked_as : {A : Type 0} (result : Result (Unit {0}) Stop) (first : Making (Unit {0})) (found : A) → Checks result first → ChecksAs result found (first >>= λ (_ : Unit {0}). made found)
+checked_as (Ok done) first found checks = λ draft. ap (then_from (λ (_ : Unit {0}). made found)) (checks draft)
+checked_as (Err stopped) first found checks = λ draft. refused_first (λ (_ : Unit {0}). made found) stopped (first draft) (checks draft)
+
+-- the same answer
+pub same_answer : (a b : Command) (s t : State) → a ≡ b → s ≡ t → answered b t ≡ answered a s
+same_answer a b s t command state = rw (command, state) refl
 
 -- a test that fails
 pub unwanted : (stopped : Stop) (test : Bool) (refusal : Refusal) (a b : Place) (draft : Draft) → StopsWith stopped (fault_of refusal a []) → a ≡ b → test ≡ false → Refuses stopped (want test refusal b draft)

@@ -365,6 +365,15 @@ foreign_names = codes "declare-datatype" ∷ codes "declare-datatypes" ∷ codes
 abbrev pub is_in : List (List ℕ) → List ℕ → Bool
 is_in names name = list_any (bytes_eq name) names
 
+unfoldable pub is_unsupported : List ℕ → Bool
+is_unsupported name = is_in unsupported_names name
+
+unfoldable pub is_foreign : List ℕ → Bool
+is_foreign name = is_in foreign_names name
+
+abbrev pub other_command : List ℕ → Named
+other_command name = if is_unsupported name then named.Unsupported else if is_foreign name then named.Foreign else named.Unknown
+
 -- The names of the commands that are read.
 abbrev pub named_so : List ℕ → Named
 named_so name =
@@ -382,9 +391,7 @@ named_so name =
     if bytes_eq name (codes "get-info") then named.GetInfo else
     if bytes_eq name (codes "reset") then named.Reset else
     if bytes_eq name (codes "reset-assertions") then named.ResetAssertions else
-    if bytes_eq name (codes "exit") then named.Exit else
-    if is_in unsupported_names name then named.Unsupported else
-    if is_in foreign_names name then named.Foreign else named.Unknown
+    if bytes_eq name (codes "exit") then named.Exit else other_command name
 
 unfoldable pub command_named : List ℕ → Named
 command_named name = named_so name

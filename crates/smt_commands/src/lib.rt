@@ -4,6 +4,7 @@
 mod command;
 mod declaring;
 mod info;
+mod levels;
 mod named;
 mod parts;
 mod reading;
