@@ -1,5 +1,5 @@
 -- Commands: what each one answers, and the state after it.
-use Rattle.std.specs.Prelude.{ℕ, ◌+◌, Bool, true, false, cond, not, ◌&&◌, ◌||◌, nat_le, ◌==◌, if◌then◌else◌, List, [], ◌∷◌, ◌++◌, map, length, Result, Ok, Err, bytes_eq, codes}
+use Rattle.std.specs.Prelude.{ℕ, ◌+◌, ◌-◌, Option, None, option_map, slice_get, Bool, true, false, cond, not, ◌&&◌, ◌||◌, nat_le, ◌==◌, if◌then◌else◌, List, [], ◌∷◌, ◌++◌, map, length, Result, Ok, Err, bytes_eq, codes}
 use Rattle.std.specs.List.{list_any}
 use Rattle.smt_text.specs.Word.{Word}
 use Rattle.smt_text.specs.Trees.{tree_of}
@@ -14,9 +14,9 @@ use Rattle.smt_names.specs.declared.stands.Stands.{Stands}
 use Rattle.smt_names.specs.declared.stands.Stands.TheVariants.{Given, Variable}
 use Rattle.smt_names.specs.Value.{sort_of, self}
 use Rattle.smt_names.specs.Making.{Making, made, ◌>>=◌, ◌>>◌, want, bad_form, not_in_profile}
-use Rattle.smt_names.specs.Names.{State, Scope, with_sort, with_function, is_symbol, is_keyword, is_numeral, is_wide, number_of, new_function_name, new_sort_name, at_start, cleared, pushed, popped}
+use Rattle.smt_names.specs.Names.{State, Scope, Declared, with_sort, with_function, is_symbol, is_keyword, is_numeral, is_wide, number_of, new_function_name, new_sort_name, at_start, cleared, pushed, popped}
 use Rattle.smt_terms.specs.Meant.{Meant, Listed, End, Token, Group, from, first_place, no_more, at_most, at_least, exactly, token_first, list_first, sort_first, other_sort, bindings_after, no_binding}
-use Rattle.smt_terms.specs.Terms.{value, truth, meant, variables_from}
+use Rattle.smt_terms.specs.Terms.{value, meant, variables_from}
 use Rattle.smt_commands.specs.declared.command.Command.{Command}
 use Rattle.smt_commands.specs.declared.command.Command.TheVariants.{Silent, Unsupported, Assert, Push, Pop, CheckSat, GetInfo, Reset, ResetAssertions, Exit}
 use Rattle.smt_commands.specs.declared.named.Named.{Named}
@@ -247,18 +247,27 @@ defined state name parameters sort v draft = silent (record state {
 abbrev pub inside_definition : State → List Bound → Scope
 inside_definition state parameters = record { state = state; bound = parameters; in_forall = false; in_definition = true }
 
+-- at most 255 bindings
+abbrev pub few_bindings : Meant → Making (Unit {0})
+few_bindings trees = do
+  bindings_after [] trees
+  no_binding refusal.TooManyArguments (from 255 trees)
+
+abbrev pub parameters_of : State → Meant → Making (List Bound)
+parameters_of state trees = do
+  few_bindings trees
+  variables_from state 0 trees
+
 -- the list of parameters that a first tree must be, of which there are at most 255
 abbrev pub parameters_first : State → Place → Meant → Making (List Bound)
 parameters_first state head parts = do
   listed ← list_first head parts
-  bindings_after [] listed.inner
-  no_binding refusal.TooManyArguments (from 255 listed.inner)
-  variables_from state 0 listed.inner
+  parameters_of state listed.inner
 
--- the value of a definition, which must have its sort
-abbrev pub defined_value : State → Place → List Bound → (sort : ℕ) → Meant → Making Value
-defined_value state head parameters sort parts = do
-  v ← value head (inside_definition state parameters) parts
+-- the value of the first tree, which must have this sort
+abbrev pub sorted_value : Place → Scope → (sort : ℕ) → Meant → Making Value
+sorted_value head scope sort parts = do
+  v ← value head scope parts
   want (sort_of v == sort) refusal.WrongSort (first_place head parts)
   made v
 
@@ -266,7 +275,7 @@ defined_value state head parameters sort parts = do
 abbrev pub defined_by : State → Place → (name : List ℕ) → List Bound → (sorted given : Meant) → Making Answer
 defined_by state head name parameters sorted given = do
   sort ← sort_first state head sorted
-  v ← defined_value state head parameters sort given
+  v ← sorted_value head (inside_definition state parameters) sort given
   defined state name parameters sort v
 
 -- (define-fun s ((x1 S1) ..) S t)
@@ -283,11 +292,16 @@ asserted state v draft = answer state (Assert (finished draft (self v))) draft
 abbrev pub outside : State → Scope
 outside state = record { state = state; bound = []; in_forall = false; in_definition = false }
 
--- (assert t)
+abbrev pub asserted_term : State → Place → Meant → Making Answer
+asserted_term state head parts = do
+  v ← sorted_value head (outside state) 0 parts
+  asserted state v
+
+-- (assert t): its sort is Bool
 abbrev pub assert_truth : State → Place → Meant → Making Answer
 assert_truth state head parts = do
   exactly 1 head parts
-  truth head (outside state) parts >>= asserted state
+  asserted_term state head parts
 
 -- how many levels are asked for, 1 where no number stands
 abbrev pub levels_asked : Place → Meant → Making ℕ
@@ -371,7 +385,7 @@ is_unsupported name = is_in unsupported_names name
 unfoldable pub is_foreign : List ℕ → Bool
 is_foreign name = is_in foreign_names name
 
-abbrev pub other_command : List ℕ → Named
+unfoldable pub other_command : List ℕ → Named
 other_command name = if is_unsupported name then named.Unsupported else if is_foreign name then named.Foreign else named.Unknown
 
 -- The names of the commands that are read.
@@ -422,6 +436,10 @@ abbrev pub command_of : State → Place → Meant → Making Answer
 command_of state paren End = bad_form paren
 command_of state paren (Group inner meaning parts trees) = bad_form inner.place
 command_of state paren (Token head parts) = cond (is_symbol head.kind) (headed state head.place parts (command_named head.text)) (bad_form head.place)
+
+-- the name of a symbol: those of functions count from 2
+abbrev pub symbol_name : State → ℕ → Option (List ℕ)
+symbol_name state symbol = cond (nat_le 2 symbol) (option_map (λ (f : Declared). f.name) (slice_get state.functions (symbol - 2))) None
 
 -- the place where scripts begin
 abbrev pub start : Place

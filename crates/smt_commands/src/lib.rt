@@ -8,6 +8,9 @@ mod levels;
 mod named;
 mod parts;
 mod reading;
+mod session;
+mod terms;
 
 pub use command::Command;
 pub use info::Info;
+pub use session::Session;

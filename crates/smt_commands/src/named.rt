@@ -58,6 +58,7 @@ fn is_foreign(name: &[u8]) -> bool
 }
 
 /// The command of a name that is none of those that are read.
+#[tactic(auto, unfolding(crate::specs::Commands::other_command))]
 fn other_command(name: &[u8]) -> Named
     ensures { result ≡ other_command name.now }
 {
