@@ -1,5 +1,5 @@
 -- Commands: what each one answers, and the state after it.
-use Rattle.std.specs.Prelude.{ℕ, ◌+◌, Bool, true, false, cond, not, ◌&&◌, ◌||◌, nat_le, ◌==◌, if◌then◌else◌, List, [], ◌∷◌, ◌++◌, map, length, Result, Ok, Err, bytes_eq, codes}
+use Rattle.std.specs.Prelude.{ℕ, ◌+◌, ◌-◌, Option, None, option_map, slice_get, Bool, true, false, cond, not, ◌&&◌, ◌||◌, nat_le, ◌==◌, if◌then◌else◌, List, [], ◌∷◌, ◌++◌, map, length, Result, Ok, Err, bytes_eq, codes}
 use Rattle.std.specs.List.{list_any}
 use Rattle.smt_text.specs.Word.{Word}
 use Rattle.smt_text.specs.Trees.{tree_of}
@@ -14,9 +14,9 @@ use Rattle.smt_names.specs.declared.stands.Stands.{Stands}
 use Rattle.smt_names.specs.declared.stands.Stands.TheVariants.{Given, Variable}
 use Rattle.smt_names.specs.Value.{sort_of, self}
 use Rattle.smt_names.specs.Making.{Making, made, ◌>>=◌, ◌>>◌, want, bad_form, not_in_profile}
-use Rattle.smt_names.specs.Names.{State, Scope, with_sort, with_function, is_symbol, is_keyword, is_numeral, is_wide, number_of, new_function_name, new_sort_name, at_start, cleared, pushed, popped}
-use Rattle.smt_terms.specs.Meant.{Meant, End, Token, Group, from, first_place, no_more, at_most, at_least, exactly, token_first, list_first, sort_first, other_sort, bindings_after, no_binding}
-use Rattle.smt_terms.specs.Terms.{value, truth, meant, variables_from}
+use Rattle.smt_names.specs.Names.{State, Scope, Declared, with_sort, with_function, is_symbol, is_keyword, is_numeral, is_wide, number_of, new_function_name, new_sort_name, at_start, cleared, pushed, popped}
+use Rattle.smt_terms.specs.Meant.{Meant, Listed, End, Token, Group, from, first_place, no_more, at_most, at_least, exactly, token_first, list_first, sort_first, other_sort, bindings_after, no_binding}
+use Rattle.smt_terms.specs.Terms.{value, meant, variables_from}
 use Rattle.smt_commands.specs.declared.command.Command.{Command}
 use Rattle.smt_commands.specs.declared.command.Command.TheVariants.{Silent, Unsupported, Assert, Push, Pop, CheckSat, GetInfo, Reset, ResetAssertions, Exit}
 use Rattle.smt_commands.specs.declared.named.Named.{Named}
@@ -63,24 +63,34 @@ numeral_first head parts = do
   made (number_of word)
 
 -- Commands.
+-- one symbol
+abbrev pub logic_form : Place → Meant → Making Word
+logic_form head parts = do
+  exactly 1 head parts
+  symbol_first head parts
+
 -- (set-logic s)
 abbrev pub set_logic : State → Place → Meant → Making Answer
 set_logic state head parts = do
-  exactly 1 head parts
-  symbol_first head parts
+  logic_form head parts
   silent state
 
--- what :print-success is set to
-abbrev pub set_success : State → Word → Making Answer
-set_success state v =
-    if bytes_eq v.text (codes "true") then silent (record state { prints_success = true }) else
-    if bytes_eq v.text (codes "false") then silent (record state { prints_success = false }) else bad_form v.place
+-- true or false
+abbrev pub truth_named : Word → Making Bool
+truth_named v =
+    if bytes_eq v.text (codes "true") then made true else
+    if bytes_eq v.text (codes "false") then made false else bad_form v.place
+
+abbrev pub truth_first : Place → Meant → Making Bool
+truth_first head parts = do
+  v ← symbol_first head parts
+  truth_named v
 
 -- (set-option :print-success v)
 abbrev pub set_print_success : State → Place → Meant → Making Answer
 set_print_success state head parts = do
-  v ← symbol_first head parts
-  set_success state v
+  prints ← truth_first head parts
+  silent (record state { prints_success = prints })
 
 -- an option that is not supported
 abbrev pub set_other : State → Meant → Making Answer
@@ -88,31 +98,68 @@ set_other state parts = do
   plain_value parts
   answer state Unsupported
 
+abbrev pub set_by : State → Place → Meant → (is_success : Bool) → Making Answer
+set_by state head parts true = set_print_success state head parts
+set_by state head parts false = set_other state parts
+
+-- a keyword, and perhaps one part more
+abbrev pub one_or_two : Place → Meant → Making (Unit {0})
+one_or_two head parts = do
+  at_least 1 head parts
+  at_most 2 parts
+
+abbrev pub key_form : Place → Meant → Making Word
+key_form head parts = do
+  one_or_two head parts
+  keyword_first head parts
+
 -- (set-option :k v)
 abbrev pub set_option : State → Place → Meant → Making Answer
 set_option state head parts = do
-  at_least 1 head parts
-  at_most 2 parts
-  key ← keyword_first head parts
-  if bytes_eq key.text (codes ":print-success") then set_print_success state head (from 1 parts) else set_other state (from 1 parts)
+  key ← key_form head parts
+  set_by state head (from 1 parts) (bytes_eq key.text (codes ":print-success"))
+
+-- a keyword, and perhaps its value
+abbrev pub info_form : Place → Meant → Making (Unit {0})
+info_form head parts = do
+  key_form head parts
+  plain_value (from 1 parts)
 
 -- (set-info :k v)
 abbrev pub set_info : State → Place → Meant → Making Answer
 set_info state head parts = do
-  at_least 1 head parts
-  at_most 2 parts
-  keyword_first head parts
-  plain_value (from 1 parts)
+  info_form head parts
   silent state
+
+-- the number of arguments of a sort, which must be 0
+abbrev pub no_arguments : Place → Meant → Making (Unit {0})
+no_arguments head parts = do
+  n ← numeral_first head parts
+  want (n == 0) refusal.NotInProfile (first_place head parts)
+
+-- the first part, which may be the name of a sort
+abbrev pub new_sort : State → Place → Meant → Making Word
+new_sort state head parts = do
+  name ← token_first head parts
+  new_sort_name state name
+  made name
+
+abbrev pub plain_sort : State → Place → Meant → Making Word
+plain_sort state head parts = do
+  name ← new_sort state head parts
+  no_arguments head (from 1 parts)
+  made name
+
+-- a new name and 0
+abbrev pub sort_form : State → Place → Meant → Making Word
+sort_form state head parts = do
+  exactly 2 head parts
+  plain_sort state head parts
 
 -- (declare-sort s n)
 abbrev pub declare_sort : State → Place → Meant → Making Answer
 declare_sort state head parts = do
-  exactly 2 head parts
-  name ← token_first head parts
-  new_sort_name state name
-  n ← numeral_first head (from 1 parts)
-  want (n == 0) refusal.NotInProfile (first_place head (from 1 parts))
+  name ← sort_form state head parts
   silent (with_sort name.text state)
 
 -- sorts other than Bool, to the end of a list
@@ -130,26 +177,57 @@ other_sorts state paren (Group p meaning inner trees) = do
 abbrev pub signature : List ℕ → ℕ → Signature
 signature arguments sort = record { arguments = arguments; sort = sort }
 
+-- the first part, which may be the name of a function
+abbrev pub new_function : State → Place → Meant → Making Word
+new_function state head parts = do
+  name ← token_first head parts
+  new_function_name state name
+  made name
+
+-- so many parts, of which the first may be the name of a function
+abbrev pub named_form : ℕ → State → Place → Meant → Making Word
+named_form n state head parts = do
+  exactly n head parts
+  new_function state head parts
+
+-- at most 255 sorts of arguments
+abbrev pub argument_sorts : State → Listed → Making (List ℕ)
+argument_sorts state listed = do
+  no_more refusal.TooManyArguments (from 255 listed.inner)
+  other_sorts state listed.paren.place listed.inner
+
+-- the list of the sorts of arguments that a first tree must be
+abbrev pub arguments_first : State → Place → Meant → Making (List ℕ)
+arguments_first state head parts = do
+  listed ← list_first head parts
+  argument_sorts state listed
+
+-- the sorts of a function: a list of those of its arguments, and behind it its own
+abbrev pub signature_first : State → Place → Meant → Making Signature
+signature_first state head parts = do
+  arguments ← arguments_first state head parts
+  sort ← sort_first state head (from 1 parts)
+  made (signature arguments sort)
+
 -- (declare-fun s (S1 .. Sn) S)
 abbrev pub declare_fun : State → Place → Meant → Making Answer
 declare_fun state head parts = do
-  exactly 3 head parts
-  name ← token_first head parts
-  new_function_name state name
-  listed ← list_first head (from 1 parts)
-  no_more refusal.TooManyArguments (from 255 listed.inner)
-  arguments ← other_sorts state listed.paren.place listed.inner
-  sort ← sort_first state head (from 2 parts)
-  silent (with_function name.text (signature arguments sort) state)
+  name ← named_form 3 state head parts
+  sorts ← signature_first state head (from 1 parts)
+  silent (with_function name.text sorts state)
+
+-- the sorts of a constant: its own, which a first tree must name
+abbrev pub constant_first : State → Place → Meant → Making Signature
+constant_first state head parts = do
+  sort ← sort_first state head parts
+  made (signature [] sort)
 
 -- (declare-const s S)
 abbrev pub declare_const : State → Place → Meant → Making Answer
 declare_const state head parts = do
-  exactly 2 head parts
-  name ← token_first head parts
-  new_function_name state name
-  sort ← sort_first state head (from 1 parts)
-  silent (with_function name.text (signature [] sort) state)
+  name ← named_form 2 state head parts
+  sorts ← constant_first state head (from 1 parts)
+  silent (with_function name.text sorts state)
 
 -- the sorts of variables
 abbrev pub sort_of_bound : Stands → ℕ
@@ -169,20 +247,43 @@ defined state name parameters sort v draft = silent (record state {
 abbrev pub inside_definition : State → List Bound → Scope
 inside_definition state parameters = record { state = state; bound = parameters; in_forall = false; in_definition = true }
 
+-- at most 255 bindings
+abbrev pub few_bindings : Meant → Making (Unit {0})
+few_bindings trees = do
+  bindings_after [] trees
+  no_binding refusal.TooManyArguments (from 255 trees)
+
+abbrev pub parameters_of : State → Meant → Making (List Bound)
+parameters_of state trees = do
+  few_bindings trees
+  variables_from state 0 trees
+
+-- the list of parameters that a first tree must be, of which there are at most 255
+abbrev pub parameters_first : State → Place → Meant → Making (List Bound)
+parameters_first state head parts = do
+  listed ← list_first head parts
+  parameters_of state listed.inner
+
+-- the value of the first tree, which must have this sort
+abbrev pub sorted_value : Place → Scope → (sort : ℕ) → Meant → Making Value
+sorted_value head scope sort parts = do
+  v ← value head scope parts
+  want (sort_of v == sort) refusal.WrongSort (first_place head parts)
+  made v
+
+-- what is defined of these parameters
+abbrev pub defined_by : State → Place → (name : List ℕ) → List Bound → (sorted given : Meant) → Making Answer
+defined_by state head name parameters sorted given = do
+  sort ← sort_first state head sorted
+  v ← sorted_value head (inside_definition state parameters) sort given
+  defined state name parameters sort v
+
 -- (define-fun s ((x1 S1) ..) S t)
 abbrev pub define_fun : State → Place → Meant → Making Answer
 define_fun state head parts = do
-  exactly 4 head parts
-  name ← token_first head parts
-  new_function_name state name
-  listed ← list_first head (from 1 parts)
-  bindings_after [] listed.inner
-  no_binding refusal.TooManyArguments (from 255 listed.inner)
-  parameters ← variables_from state 0 listed.inner
-  sort ← sort_first state head (from 2 parts)
-  v ← value head (inside_definition state parameters) (from 3 parts)
-  want (sort_of v == sort) refusal.WrongSort (first_place head (from 3 parts))
-  defined state name.text parameters sort v
+  name ← named_form 4 state head parts
+  parameters ← parameters_first state head (from 1 parts)
+  defined_by state head name.text parameters (from 2 parts) (from 3 parts)
 
 abbrev pub asserted : State → Value → Making Answer
 asserted state v draft = answer state (Assert (finished draft (self v))) draft
@@ -191,12 +292,16 @@ asserted state v draft = answer state (Assert (finished draft (self v))) draft
 abbrev pub outside : State → Scope
 outside state = record { state = state; bound = []; in_forall = false; in_definition = false }
 
--- (assert t)
+abbrev pub asserted_term : State → Place → Meant → Making Answer
+asserted_term state head parts = do
+  v ← sorted_value head (outside state) 0 parts
+  asserted state v
+
+-- (assert t): its sort is Bool
 abbrev pub assert_truth : State → Place → Meant → Making Answer
 assert_truth state head parts = do
   exactly 1 head parts
-  v ← truth head (outside state) parts
-  asserted state v
+  asserted_term state head parts
 
 -- how many levels are asked for, 1 where no number stands
 abbrev pub levels_asked : Place → Meant → Making ℕ
@@ -204,23 +309,39 @@ levels_asked head End = made 1
 levels_asked head (Token word trees) = numeral_first head (Token word trees)
 levels_asked head (Group paren meaning inner trees) = bad_form paren.place
 
+-- at most one part, how many levels are asked for
+abbrev pub level_form : Place → Meant → Making ℕ
+level_form head parts = do
+  at_most 1 parts
+  levels_asked head parts
+
+-- as many levels as may be opened
+abbrev pub push_form : State → Place → Meant → Making ℕ
+push_form state head parts = do
+  n ← level_form head parts
+  want (nat_le (length state.levels + n) state.limits.levels) refusal.LevelsFull (first_place head parts)
+  made n
+
 -- (push n)
 abbrev pub push_levels : State → Place → Meant → Making Answer
 push_levels state head parts = do
-  at_most 1 parts
-  n ← levels_asked head parts
-  want (nat_le (length state.levels + n) state.limits.levels) refusal.LevelsFull (first_place head parts)
+  n ← push_form state head parts
   answer (pushed n state) (Push n)
+
+-- as many levels as may be closed
+abbrev pub pop_form : State → Place → Meant → Making ℕ
+pop_form state head parts = do
+  n ← level_form head parts
+  want (nat_le n (length state.levels)) refusal.PopTooFar (first_place head parts)
+  made n
 
 -- (pop n)
 abbrev pub pop_levels : State → Place → Meant → Making Answer
 pop_levels state head parts = do
-  at_most 1 parts
-  n ← levels_asked head parts
-  want (nat_le n (length state.levels)) refusal.PopTooFar (first_place head parts)
+  n ← pop_form state head parts
   answer (popped n state) (Pop n)
 
-abbrev pub info_of : List ℕ → Info
+unfoldable pub info_of : List ℕ → Info
 info_of key =
     if bytes_eq key (codes ":name") then info.Name else
     if bytes_eq key (codes ":version") then info.Version else
@@ -229,11 +350,16 @@ info_of key =
     if bytes_eq key (codes ":assertion-stack-levels") then info.Levels else
     if bytes_eq key (codes ":reason-unknown") then info.ReasonUnknown else info.Other
 
+-- one keyword
+abbrev pub asked_form : Place → Meant → Making Word
+asked_form head parts = do
+  exactly 1 head parts
+  keyword_first head parts
+
 -- (get-info :k)
 abbrev pub get_info : State → Place → Meant → Making Answer
 get_info state head parts = do
-  exactly 1 head parts
-  key ← keyword_first head parts
+  key ← asked_form head parts
   answer state (GetInfo (info_of key.text))
 
 -- a command without parts
@@ -253,6 +379,15 @@ foreign_names = codes "declare-datatype" ∷ codes "declare-datatypes" ∷ codes
 abbrev pub is_in : List (List ℕ) → List ℕ → Bool
 is_in names name = list_any (bytes_eq name) names
 
+unfoldable pub is_unsupported : List ℕ → Bool
+is_unsupported name = is_in unsupported_names name
+
+unfoldable pub is_foreign : List ℕ → Bool
+is_foreign name = is_in foreign_names name
+
+unfoldable pub other_command : List ℕ → Named
+other_command name = if is_unsupported name then named.Unsupported else if is_foreign name then named.Foreign else named.Unknown
+
 -- The names of the commands that are read.
 abbrev pub named_so : List ℕ → Named
 named_so name =
@@ -270,9 +405,7 @@ named_so name =
     if bytes_eq name (codes "get-info") then named.GetInfo else
     if bytes_eq name (codes "reset") then named.Reset else
     if bytes_eq name (codes "reset-assertions") then named.ResetAssertions else
-    if bytes_eq name (codes "exit") then named.Exit else
-    if is_in unsupported_names name then named.Unsupported else
-    if is_in foreign_names name then named.Foreign else named.Unknown
+    if bytes_eq name (codes "exit") then named.Exit else other_command name
 
 unfoldable pub command_named : List ℕ → Named
 command_named name = named_so name
@@ -304,6 +437,10 @@ command_of state paren End = bad_form paren
 command_of state paren (Group inner meaning parts trees) = bad_form inner.place
 command_of state paren (Token head parts) = cond (is_symbol head.kind) (headed state head.place parts (command_named head.text)) (bad_form head.place)
 
+-- the name of a symbol: those of functions count from 2
+abbrev pub symbol_name : State → ℕ → Option (List ℕ)
+symbol_name state symbol = cond (nat_le 2 symbol) (option_map (λ (f : Declared). f.name) (slice_get state.functions (symbol - 2))) None
+
 -- the place where scripts begin
 abbrev pub start : Place
 start = record { line = 1; column = 1 }
@@ -317,6 +454,10 @@ abbrev pub without_draft : Result (Answer × Draft) SyntaxFault → Result Answe
 without_draft (Ok done) = Ok done.0
 without_draft (Err fault) = Err fault
 
+-- What is answered in a state, where no shape is begun.
+abbrev pub begun : State → Making Answer → Result Answer SyntaxFault
+begun state making = without_draft (making (empty_draft state.limits.terms state.limits.nodes))
+
 -- What a command, a list of tokens, answers in a state, or its first refusal.
 unfoldable pub elaborate : State → List Word → Result Answer SyntaxFault
-elaborate state words = without_draft (command_at state (meant (tree_of words)) (empty_draft state.limits.terms state.limits.nodes))
+elaborate state words = begun state (command_at state (meant (tree_of words)))

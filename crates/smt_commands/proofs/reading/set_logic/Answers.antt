@@ -1,0 +1,13 @@
+use Rattle.std.proofs.Common.{refl, Ok}
+use Rattle.smt_terms.specs.Cursor.{here}
+use Rattle.smt_text.specs.Word.{Word}
+use Rattle.smt_commands.specs.declared.command.Command.TheVariants.{Silent}
+use Rattle.smt_commands.specs.Commands.{logic_form, silent}
+use Rattle.smt_commands.proofs.Steps.{command_refused, command_after, draft_of}
+use Rattle.smt_commands.proofs.reading.set_logic.Goals as goal
+
+pub returns-in-Err : goal.returns-in-Err
+returns-in-Err c = command_refused c.args.state.now (logic_form c.args.head (here c.args.tree.now c.args.i)) (λ (_ : Word). silent c.args.state.now) c.in-Err.stop (c.in-Err.ensures (draft_of c.args.state.now))
+
+pub returns-in-Ok : goal.returns-in-Ok
+returns-in-Ok c = command_after c.args.state.now (logic_form c.args.head (here c.args.tree.now c.args.i)) (λ (_ : Word). silent c.args.state.now) (Ok Silent) c.args.state.now _ (c.in-Ok.ensures (draft_of c.args.state.now)) refl
