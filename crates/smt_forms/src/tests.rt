@@ -15,10 +15,10 @@ fn arg(value: Value) -> Arg {
 }
 
 /// A formula with a complement.
-fn formula(node: u32) -> Arg {
+fn formula(itself: u32, complement: u32) -> Arg {
     arg(Value::Formula {
-        itself: node,
-        complement: Some(node + 1),
+        itself,
+        complement: Some(complement),
     })
 }
 
@@ -48,7 +48,7 @@ fn count(alloc: Global, connective: Connective, args: &[Arg]) -> Result<(u32, u3
 #[test]
 fn each_connective_puts_its_nodes(rt: HostRuntime) -> Result<(), Fail> {
     let alloc = rt.alloc();
-    let three = [formula(30), formula(32), formula(34)];
+    let three = [formula(30, 31), formula(32, 33), formula(34, 35)];
     let terms = [term(0), term(1), term(2)];
     assert_eq!(rt; count(alloc, Connective::True, &[])?, (2, 0));
     assert_eq!(rt; count(alloc, Connective::False, &[])?, (2, 1));
