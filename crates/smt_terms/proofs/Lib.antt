@@ -4,5 +4,3 @@ pub mod Machines
 pub mod Openings
 pub mod Walks
 pub mod ForallLemmas
-pub mod PatternLemmas
-pub mod TriggerLemmas

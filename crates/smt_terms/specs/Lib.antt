@@ -5,4 +5,3 @@ pub mod Cursor
 pub mod Machine
 pub mod Checks
 pub mod Bodies
-pub mod Triggers

@@ -8,7 +8,7 @@ use Rattle.smt_terms.proofs.bodies.read_variables.Given as goal
 
 -- the variables so far and those of the bindings that are left are those of all
 abbrev pub invariant-loop-variables : goal.invariant-loop-variables
-invariant-loop-variables l = (draft : Draft) → behind_variables l.variables.items (variables_from l.state l.index (here l.tree l.at) draft) ≡ variables_from l.state 0 (here l.tree l.i) draft
+invariant-loop-variables l = (draft : Draft) → behind_variables l.variables (variables_from l.state l.index (here l.tree l.at) draft) ≡ variables_from l.state 0 (here l.tree l.i) draft
 
 abbrev pub decreases-loop-variables : goal.decreases-loop-variables
 decreases-loop-variables l = weight l.tree (here l.tree l.at)

@@ -1,5 +1,4 @@
-use Rattle.std.proofs.Common.{◌+◌, List, sym, ap, ◌∙◌}
-use Rattle.smt_names.specs.declared.bound.Bound.{Bound}
+use Rattle.std.proofs.Common.{◌+◌}
 use Rattle.smt_terms.specs.Terms.{bound_forall, body_forall}
 use Rattle.smt_terms.specs.Cursor.{word_at, here}
 use Rattle.smt_terms.specs.Machine.{scope_of}
@@ -15,6 +14,5 @@ returns-in-Err-read_variables-clause-value c = variables_unread (word_at c.args.
 
 pub returns-in-Ok-read_variables-clause-value : goal.returns-in-Ok-read_variables-clause-value
 returns-in-Ok-read_variables-clause-value c =
-    makes_as c.put_body.result c.args.draft.now c.put_body.new.draft (bound_forall (word_at c.args.tree.now c.args.i).place (word_at c.args.tree.now (c.args.i + 1)).place (scope_of c.args.state.now c.args.inside c.args.bound.now) (here c.args.tree.now c.args.bindings) (here c.args.tree.now c.args.body)) (body_forall (word_at c.args.tree.now c.args.i).place (word_at c.args.tree.now (c.args.i + 1)).place (scope_of c.args.state.now c.args.inside c.args.bound.now) c.as_slice-variables.result.now (here c.args.tree.now c.args.body))
-    (variables_read (word_at c.args.tree.now c.args.i).place (word_at c.args.tree.now (c.args.i + 1)).place (scope_of c.args.state.now c.args.inside c.args.bound.now) (here c.args.tree.now c.args.bindings) (here c.args.tree.now c.args.body) c.in-Ok-read_variables.variables.items c.args.draft.now (c.in-Ok.ensures c.args.draft.now) (c.in-Ok-read_variables.ensures c.args.draft.now)
-    ∙ ap (λ (vs : List Bound). body_forall (word_at c.args.tree.now c.args.i).place (word_at c.args.tree.now (c.args.i + 1)).place (scope_of c.args.state.now c.args.inside c.args.bound.now) vs (here c.args.tree.now c.args.body) c.args.draft.now) (sym c.as_slice-variables.ensures.value)) c.put_body.ensures.value
+    makes_as c.put_body.result c.args.draft.now c.put_body.new.draft (bound_forall (word_at c.args.tree.now c.args.i).place (word_at c.args.tree.now (c.args.i + 1)).place (scope_of c.args.state.now c.args.inside c.args.bound.now) (here c.args.tree.now c.args.bindings) (here c.args.tree.now c.args.body)) (body_forall (word_at c.args.tree.now c.args.i).place (word_at c.args.tree.now (c.args.i + 1)).place (scope_of c.args.state.now c.args.inside c.args.bound.now) c.in-Ok-read_variables.variables (here c.args.tree.now c.args.body))
+    (variables_read (word_at c.args.tree.now c.args.i).place (word_at c.args.tree.now (c.args.i + 1)).place (scope_of c.args.state.now c.args.inside c.args.bound.now) (here c.args.tree.now c.args.bindings) (here c.args.tree.now c.args.body) c.in-Ok-read_variables.variables c.args.draft.now (c.in-Ok.ensures c.args.draft.now) (c.in-Ok-read_variables.ensures c.args.draft.now)) c.put_body.ensures.value
