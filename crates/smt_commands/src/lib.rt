@@ -14,6 +14,3 @@ mod terms;
 pub use command::Command;
 pub use info::Info;
 pub use session::Session;
-
-#[cfg(test)]
-mod tests;
