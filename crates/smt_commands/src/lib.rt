@@ -6,6 +6,7 @@ mod declaring;
 mod info;
 mod levels;
 mod named;
+mod parameters;
 mod parts;
 mod reading;
 mod session;
@@ -14,3 +15,6 @@ mod terms;
 pub use command::Command;
 pub use info::Info;
 pub use session::Session;
+
+#[cfg(test)]
+mod tests;
