@@ -1,4 +1,3 @@
 pub mod Examples
 pub mod Steps
 pub mod Sorts
-pub mod Bindings

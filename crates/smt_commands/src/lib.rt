@@ -6,7 +6,6 @@ mod declaring;
 mod info;
 mod levels;
 mod named;
-mod parameters;
 mod parts;
 mod reading;
 mod session;
@@ -15,6 +14,3 @@ mod terms;
 pub use command::Command;
 pub use info::Info;
 pub use session::Session;
-
-#[cfg(test)]
-mod tests;
