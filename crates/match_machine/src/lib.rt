@@ -2,7 +2,7 @@
 #![tactic(auto)]
 
 pub mod answer;
-mod arrange;
+pub mod arrange;
 mod choices;
 pub mod entry_matches;
 pub mod found;
