@@ -5,3 +5,5 @@ pub mod SpreadLemmas
 pub mod WalkLemmas
 pub mod OrderLemmas
 pub mod RunLemmas
+pub mod ValueLemmas
+pub mod ParentLemmas
