@@ -1,4 +1,5 @@
 pub mod InOrder
+pub mod InOrderLaws
 pub mod Node
 pub mod Formulas
 pub mod TableInside
