@@ -6,4 +6,5 @@ pub mod TableInside
 pub mod Marks
 pub mod EnterFault
 pub mod Entry
+pub mod EntryLaws
 pub mod EntryInside
