@@ -1,8 +1,10 @@
 pub mod InOrder
+pub mod InOrderLaws
 pub mod Node
 pub mod Formulas
 pub mod TableInside
 pub mod Marks
 pub mod EnterFault
 pub mod Entry
+pub mod EntryLaws
 pub mod EntryInside
