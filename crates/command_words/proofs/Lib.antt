@@ -1,0 +1,4 @@
+pub mod Built
+pub mod Look
+pub mod Rows
+pub mod Turns
