@@ -2,3 +2,4 @@ pub mod Built
 pub mod Look
 pub mod Rows
 pub mod Turns
+pub mod Walks
