@@ -6,15 +6,18 @@ use Rattle.std.specs.Option.{option_map_or}
 use Rattle.std.specs.Str.{bytes_eq, IsUtf8}
 use Rattle.std.proofs.lemmas.List.Elements.{All-drop, All-get_or}
 use Rattle.clap.specs.Kinds.{Kinds, or_else}
-use Rattle.clap.specs.Faults.{long_fault, settle_fault, turn_fault, use_fault, walk_fault}
-use Rattle.clap.specs.Walk.{Held, Row, Walk, arg_by_index, has_row, is_pending, settled_rows, to_positional, used, walked}
+use Rattle.clap.specs.Faults.{default_fault, defaults_fault, fault_of, long_fault, settle_fault, turn_fault, use_fault, walk_fault}
+use Rattle.clap.specs.Walk.{Held, Row, Rule, Walk, arg_by_index, has_row, is_pending, nothing_held, settled_rows, to_positional, used, walked, with_default}
+use Rattle.clap.specs.Simple.{matches_of}
+use Rattle.clap.proofs.FaultLemmas.{leaf_fault}
+use Rattle.command_words.specs.ClapCommand.{command_line}
 use Rattle.clap.specs.Walk.{idle, option}
 use Rattle.command_words.specs.Number.{Text}
-use Rattle.command_words.specs.Texts.{Place, Texts, Sofar, workers, rounds, command, count, text_at, with_text, give, give_next, wait_for, is_flag, joined_value, option_named, read_option, read_open, read_word, read_all, ended}
-use Rattle.command_words.proofs.Built.{id_of, rule_at, rules, shape}
+use Rattle.command_words.specs.Texts.{Place, Texts, Sofar, workers, rounds, command, count, text_at, with_text, give, give_next, wait_for, is_flag, joined_value, option_named, read_option, read_open, read_word, read_all, ended, nothing, texts_in}
+use Rattle.command_words.proofs.Built.{built_line, id_of, rule_at, rules, shape}
 use Rattle.command_words.proofs.Look.{IsPlain, IsLong, IsShort, IsDashes, Look, long_named, look}
-use Rattle.command_words.proofs.Rows.{Holds, holds_has, holds_used}
-use Rattle.command_words.proofs.Turns.{IsFault, Goes, IsDoomed, Loses, and_false, by_long, doomed_end, doomed_turn, fails_as, fault_from, first_fails, goes_fault, goes_rows, held, long_fails, long_turn, or_false, place_fault, plain_fault, plain_next, positional_settles, rows_from, second_fails, settle_at, settled_at, short_fails, stand, stops, use_again, use_empty, use_ok}
+use Rattle.command_words.proofs.Rows.{Holds, holds_has, holds_used, values_at, wanted}
+use Rattle.command_words.proofs.Turns.{IsFault, Goes, IsDoomed, Loses, and_false, by_long, doomed_end, doomed_turn, end_fault, fails_as, fault_from, first_fails, goes_fault, goes_rows, held, long_fails, long_turn, or_false, place_fault, plain_fault, plain_next, positional_settles, rows_from, second_fails, settle_at, settled_at, short_fails, stand, stops, use_again, use_empty, use_ok}
 
 -- ---- how the walk stands where this crate's reading does
 
@@ -264,3 +267,221 @@ module _ (rows : List Row) (pending : Option (Text × List Text)) (position : �
   again_fault rounds v a = second_fails (settle_fault rules false (held rows pending)) (use_fault false (rule_at rounds) (v ∷ []) after) (use_again rounds (v ∷ []) after a)
   again_fault command v a = second_fails (settle_fault rules false (held rows pending)) (use_fault false (rule_at command) (v ∷ []) after) (use_again command (v ∷ []) after a)
   again_fault count v a = second_fails (settle_fault rules false (held rows pending)) (use_fault false (rule_at count) (v ∷ []) after) (use_again count (v ∷ []) after a)
+
+  module _ (t : Texts) (settles : settle_fault rules false (held rows pending) ≡ []) (holds : Holds t after) (spot : Spot t position) where
+    wait_for_turn : (p : Place) → long_named l.name ≡ Some p → l.value ≡ None → (b : Bool) → is_some (text_at p t) ≡ b
+        → Turn open_at word (cond b None (Some (sofar t (Some p) false)))
+    wait_for_turn p e v true g = inr (
+      stand after (Some (id_of p, [])) (option (id_of p)) position false,
+      waits_goes p e v settles,
+      record {
+        place = p;
+        values = [];
+        rows = after;
+        waiting = option (id_of p);
+        position = position;
+        closed = false;
+        is = refl;
+        bad = inl (holds_has t after holds p ∙ g);
+      },
+    )
+    wait_for_turn p e v false g = (
+      stand after (Some (id_of p, [])) (option (id_of p)) position false,
+      waits_goes p e v settles,
+      (
+        record {
+          rows = after;
+          position = position;
+          is = refl;
+          holds = holds;
+          free = g;
+          option = named_option l.name p e;
+          spot = spot;
+        },
+        refl,
+      ),
+    )
+
+    give_turn : (p : Place) (v : Text) → long_named l.name ≡ Some p → l.value ≡ Some v → (b : Bool) → is_some (text_at p t) ≡ b
+        → Turn open_at word (cond b None (Some (sofar (with_text p v t) None false)))
+    give_turn p v e j true g =
+        let f : IsFault (long_fault rules false (option_map rule_at (long_named l.name)) l.value (held rows pending)) =
+            rw (e, j) (again_fault p v (holds_has t after holds p ∙ g)) in
+        inl (long_turn rows pending idle position word l f)
+    give_turn p v e j false g = (
+      stand (used (rule_at p) (v ∷ []) after) None idle position false,
+      joined_goes p v e j settles (absent p t after holds g),
+      used_up p v t after position holds g (spot_kept p v t position (named_option l.name p e) spot),
+    )
+
+    option_turn : (o : Option Place) → long_named l.name ≡ o → (x : Option Text) → l.value ≡ x → Turn open_at word (read_option o word (sofar t None false))
+    option_turn None e x v =
+        let f : IsFault (long_fault rules false (option_map rule_at (long_named l.name)) l.value (held rows pending)) =
+            rw e (λ k. cc) in
+        rw l.flag (inl (long_turn rows pending idle position word l f))
+    option_turn (Some p) e None v = rw (l.joined, v) (wait_for_turn p e v (is_some (text_at p t)) refl)
+    option_turn (Some p) e (Some x) v = rw (l.joined, v) (give_turn p x e v (is_some (text_at p t)) refl)
+
+-- ---- a word at any place
+
+turn_as : (w : Walk) (word : Text) (a b : Option Sofar) → a ≡ b → Turn w word b → Turn w word a
+turn_as w word a b e t = subst (λ (o : Option Sofar). Turn w word o) (sym e) t
+
+idle_turn : (t : Texts) (closed : Bool) (rows : List Row) (pending : Option (Text × List Text)) (position : ℕ)
+    → settle_fault rules false (held rows pending) ≡ [] → Holds t (settled_rows rules pending rows) → Spot t position
+    → (word : Text) → Look word → Turn (stand rows pending idle position closed) word (read_word None word (sofar t None closed))
+unfolding walked
+idle_turn t true rows pending position e h spot word l = next_turn rows pending word true t e h position spot (refl, refl)
+idle_turn t false rows pending position e h spot word (inl s) =
+    let is : read_word None word (sofar t None false) ≡ give_next word (sofar t None false) = rw (s.dashes, s.named, s.flag) refl in
+    turn_as (stand rows pending idle position false) word _ _ is
+    (next_turn rows pending word false t e h position spot (plain_fault rows pending position word s, plain_next rows pending position word s))
+idle_turn t false rows pending position e h spot word (inr (inl l)) =
+    let is : read_word None word (sofar t None false) ≡ read_option (long_named l.name) word (sofar t None false) = rw (l.dashes, l.named) refl in
+    turn_as (stand rows pending idle position false) word _ _ is
+    (option_turn rows pending position word l t e h spot (long_named l.name) refl l.value refl)
+idle_turn t false rows pending position e h spot word (inr (inr (inl s))) =
+    let is : read_word None word (sofar t None false) ≡ None = rw (s.dashes, s.named, s.flag) refl in
+    turn_as (stand rows pending idle position false) word _ _ is
+    (inl (short_fails rows pending idle position word s))
+idle_turn t false rows pending position e h spot word (inr (inr (inr d))) =
+    let is : read_word None word (sofar t None false) ≡ Some (sofar t None true) = rw d.dashes refl in
+    turn_as (stand rows pending idle position false) word _ _ is (
+      stand rows pending idle position true,
+      record { fault = rw d.dashes refl; next = rw d.dashes refl },
+      record {
+        rows = rows;
+        pending = pending;
+        position = position;
+        is = refl;
+        settles = e;
+        holds = h;
+        spot = spot;
+      },
+    )
+
+turn_at : (o : Option Place) (t : Texts) (closed : Bool) (w : Walk) (word : Text) → StandsAt o t closed w → Look word
+    → Turn w word (read_word o word (sofar t o closed))
+turn_at None t closed w word i l = rw i.is (idle_turn t closed i.rows i.pending i.position i.settles i.holds i.spot word l)
+turn_at (Some p) t closed w word i l = rw (i.1, i.0.is)
+    (wait_turn i.0.rows i.0.position word p t i.0.holds i.0.free i.0.option i.0.spot l)
+
+turn : (s : Sofar) (w : Walk) (word : Text) → Stands s w → Look word → Turn w word (read_word s.waits word s)
+turn s w word st l = turn_at s.waits s.texts s.is_closed w word st l
+
+-- ---- all the words
+
+first_word : (word : Text) (rest : List Text) → All IsUtf8 (word ∷ rest) → IsUtf8 word
+first_word word rest u = All-get_or IsUtf8 (word ∷ rest) 0 word (omega arith) u
+
+other_words : (word : Text) (rest : List Text) → All IsUtf8 (word ∷ rest) → All IsUtf8 rest
+other_words word rest u = All-drop IsUtf8 1 (word ∷ rest) u
+
+doomed : (words : List Text) (w : Walk) → All IsUtf8 words → IsDoomed w → IsFault (fault_from w words)
+doomed [] w u d = doomed_end w d
+doomed (word ∷ rest) w u d =
+    go (doomed_turn w word d (look word (first_word word rest u))) (λ v e. doomed rest v (other_words word rest u) e)
+  where
+    go : Loses w word → ((v : Walk) → IsDoomed v → IsFault (fault_from v rest)) → IsFault (fault_from w (word ∷ rest))
+    go (inl f) rec = stops w word rest f
+    go (inr g) rec = fails_as _ _ (goes_fault w g.0 word rest g.1) (rec g.0 g.2)
+
+-- no texts where `clap` refuses, and else the texts that the rows hold
+abbrev pub Agrees : Option Texts → Kinds → List Row → Type 0
+Agrees o fault rows = MatchOption o (IsFault fault) (λ t. (fault ≡ []) × Holds t rows)
+
+ends_at : (o : Option Place) (t : Texts) (closed : Bool) (w : Walk) → StandsAt o t closed w
+    → Agrees (ended (sofar t o closed)) (fault_from w []) (rows_from w [])
+unfolding walk_fault
+ends_at None t closed w i = rw i.is (i.settles, i.holds)
+ends_at (Some p) t closed w i = rw i.0.is (fails_as _ _ (settle_at p [] i.0.rows) (use_empty p i.0.rows))
+
+walks : (words : List Text) (s : Sofar) (w : Walk) → All IsUtf8 words → Stands s w
+    → Agrees (option_and_then ended (read_all s words)) (fault_from w words) (rows_from w words)
+walks [] s w u st = ends_at s.waits s.texts s.is_closed w st
+walks (word ∷ rest) s w u st =
+    go (read_word s.waits word s) (turn s w word st (look word (first_word word rest u)))
+    (λ r v e. walks rest r v (other_words word rest u) e)
+  where
+    go : (o : Option Sofar) → Turn w word o
+        → ((r : Sofar) (v : Walk) → Stands r v → Agrees (option_and_then ended (read_all r rest)) (fault_from v rest) (rows_from v rest))
+        → Agrees (option_and_then ended (option_and_then (λ r. read_all r rest) o)) (fault_from w (word ∷ rest)) (rows_from w (word ∷ rest))
+    go None (inl f) rec = stops w word rest f
+    go None (inr g) rec = fails_as _ _ (goes_fault w g.0 word rest g.1) (doomed rest g.0 (other_words word rest u) g.2)
+    go (Some r) g rec = rw (goes_fault w g.0 word rest g.1, goes_rows w g.0 word rest g.1) (rec r g.0 g.2)
+
+-- ---- the whole parse
+
+or_true : (b : Bool) → (b || true) ≡ true
+or_true true = refl
+or_true false = refl
+
+same_both : (b : Bool) (rows : List Row) → cond b rows rows ≡ rows
+same_both true rows = refl
+same_both false rows = refl
+
+keeps : (p : Place) (rows : List Row) → with_default rows (rule_at p) ≡ rows
+keeps workers rows = same_both (has_row (id_of workers) rows) rows
+keeps rounds rows = same_both (has_row (id_of rounds) rows) rows
+keeps command rows = same_both (has_row (id_of command) rows) rows
+keeps count rows = same_both (has_row (id_of count) rows) rows
+
+no_default : (p : Place) (rows : List Row) → default_fault rows (rule_at p) ≡ []
+no_default workers rows = rw (or_true (has_row (id_of workers) rows)) refl
+no_default rounds rows = rw (or_true (has_row (id_of rounds) rows)) refl
+no_default command rows = rw (or_true (has_row (id_of command) rows)) refl
+no_default count rows = rw (or_true (has_row (id_of count) rows)) refl
+
+skip : (p : Place) (rows : List Row) (rest : List Rule) → defaults_fault rows (rule_at p ∷ rest) ≡ defaults_fault rows rest
+unfolding defaults_fault
+skip p rows rest = ap₂ or_else (no_default p rows) (ap (λ (r : List Row). defaults_fault r rest) (keeps p rows))
+
+no_defaults : (rows : List Row) → defaults_fault rows rules ≡ []
+unfolding defaults_fault
+no_defaults rows = skip workers rows (rule_at rounds ∷ rule_at command ∷ rule_at count ∷ [])
+    ∙ (skip rounds rows (rule_at command ∷ rule_at count ∷ [])
+    ∙ (skip command rows (rule_at count ∷ []) ∙ skip count rows []))
+
+all_kept : (rows : List Row) → fold with_default rows rules ≡ rows
+all_kept rows =
+    ap (λ (r : List Row). with_default (with_default (with_default r (rule_at rounds)) (rule_at command)) (rule_at count)) (keeps workers rows)
+    ∙ (ap (λ (r : List Row). with_default (with_default r (rule_at command)) (rule_at count)) (keeps rounds rows)
+    ∙ (ap (λ (r : List Row). with_default r (rule_at count)) (keeps command rows) ∙ keeps count rows))
+
+or_nothing : (k : Kinds) → or_else k [] ≡ k
+or_nothing [] = refl
+or_nothing (x ∷ xs) = refl
+
+abbrev start : Walk
+start = stand [] None idle 1 false
+
+starts : Stands nothing start
+starts = record {
+  rows = [];
+  pending = None;
+  position = 1;
+  is = refl;
+  settles = refl;
+  holds = record { values = none_yet };
+  spot = inl (refl, refl, refl);
+}
+  where
+    none_yet : (p : Place) → values_at p [] ≡ wanted p nothing.texts
+    none_yet workers = refl
+    none_yet rounds = refl
+    none_yet command = refl
+    none_yet count = refl
+
+fault_is : (words : List Text) → fault_of command_line words ≡ fault_from start words
+fault_is words =
+    leaf_fault built_line nothing_held words refl
+    ∙ (ap (λ (k : Kinds). or_else (walk_fault shape [] start words) (or_else (end_fault (fold (walked rules []) start words)) (or_else k [])))
+    (no_defaults (rows_from start words))
+    ∙ ap (or_else (walk_fault shape [] start words)) (or_nothing (end_fault (fold (walked rules []) start words))))
+
+rows_is : (words : List Text) → matches_of command_line words ≡ rows_from start words
+rows_is words = all_kept (rows_from start words)
+
+-- what `clap` makes of the words is what this crate's definition gives
+pub line_agrees : (words : List Text) → All IsUtf8 words → Agrees (texts_in words) (fault_of command_line words) (matches_of command_line words)
+line_agrees words u = rw (fault_is words, rows_is words) (walks words nothing start u starts)
