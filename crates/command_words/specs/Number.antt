@@ -17,8 +17,11 @@ is_numeral [] = false
 is_numeral (b ∷ []) = is_digit b
 is_numeral (b ∷ c ∷ cs) = not (b == 48) && list_all is_digit (b ∷ c ∷ cs)
 
+-- the number, where it lies from `least` to `most`
+abbrev pub within : ℕ → ℕ → ℕ → Option ℕ
+within least most n = if nat_le least n && nat_le n most then Some n else None
+
 -- the number that the word writes in decimal, where it lies from `least` to `most`
 abbrev pub number_in : ℕ → ℕ → Text → Option ℕ
 number_in least most text =
-    let n = digits_value 10 text in
-    if is_numeral text && (nat_le least n && nat_le n most) then Some n else None
+    if is_numeral text then within least most (digits_value 10 text) else None

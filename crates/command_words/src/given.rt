@@ -1,10 +1,8 @@
 //! The texts that the words give, by their places.
-ghost use Rattle.std.specs.Prelude.{◌≡◌, IfOk, codes, map, option_map, string_bytes};
-ghost use Rattle.std.specs.List.{All};
-ghost use Rattle.std.specs.Str.{IsUtf8};
+ghost use Rattle.std.specs.Prelude.{◌≡◌, IfOk, map, string_bytes};
 ghost use Rattle.clap.specs.Values.{kind_of};
-ghost use Rattle.clap.specs.Words.{app_of, first_of, found_of, rows_of};
-ghost use Rattle.command_words.specs.Texts.{Texts, texts_of, texts_in};
+ghost use Rattle.clap.specs.Words.{app_of, found_of, rows_of};
+ghost use Rattle.command_words.specs.Texts.{texts_of, texts_in};
 ghost use Rattle.command_words.specs.ClapCommand.{command_line, texts_of_rows};
 
 use crate::fault::WordsFault;
@@ -65,15 +63,6 @@ fn fault_of(error: &Error) -> WordsFault
     }
 }
 
-/// Each word is text. The loop changes nothing: it is how a proof learns it.
-fn are_texts(words: &[String])
-    ensures { All (λ word. IsUtf8 (string_bytes word)) words.now }
-{
-    for word in words {
-        let _text = word.as_str();
-    }
-}
-
 /// Which word stands for what.
 pub(crate) fn split_words<'a>(
     alloc: Global,
@@ -82,7 +71,6 @@ pub(crate) fn split_words<'a>(
     ensures ok { IfOk result (λ given. texts_in (map string_bytes words.now) ≡ Some (texts_of given)) }
     ensures refused { result ≡ Err WordsFault.Refused → texts_in (map string_bytes words.now) ≡ None }
 {
-    are_texts(words);
     let command = command_line(alloc)?;
     match command.try_get_matches_from(words) {
         Ok(matches) => Ok(given_in(&matches)),

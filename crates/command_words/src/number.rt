@@ -1,7 +1,7 @@
 //! Numbers as words.
 ghost use Rattle.std.specs.Prelude.{◌≡◌};
 ghost use Rattle.std.specs.List.{list_all};
-ghost use Rattle.command_words.specs.Number.{is_digit, is_numeral, number_in};
+ghost use Rattle.command_words.specs.Number.{is_digit, is_numeral, number_in, within};
 
 /// A decimal digit.
 fn is_digit(byte: u8) -> bool
@@ -27,6 +27,17 @@ fn is_numeral(text: &[u8]) -> bool
     }
 }
 
+/// The number, where it is in its limits.
+fn within(number: u32, least: u32, most: u32) -> Option<u32>
+    ensures { result ≡ within least most number }
+{
+    if least <= number && number <= most {
+        Some(number)
+    } else {
+        None
+    }
+}
+
 /// The number that a word writes, where it is in its limits.
 pub(crate) fn number_in(text: &str, least: u32, most: u32) -> Option<u32>
     ensures { result ≡ number_in least most text.now }
@@ -35,7 +46,7 @@ pub(crate) fn number_in(text: &str, least: u32, most: u32) -> Option<u32>
         return None;
     }
     match text.parse::<u32>() {
-        Ok(number) if least <= number && number <= most => Some(number),
-        _ => None,
+        Ok(number) => within(number, least, most),
+        Err(_) => None,
     }
 }

@@ -1,8 +1,10 @@
-use Rattle.std.proofs.Common.{rules, ◌≡◌, ℕ, ◌+◌, ◌-◌, ◌*◌, ◌<◌, ◌≤◌, length, ◌/◌, ◌%◌, Bool, true, false, nat_eq, nat_lt, List, [], ◌∷◌, ◌++◌, slice_index_or, slice_set, bit_and, bit_or, Fits, w8, w32, w64, Bor, MutBor}
-use Rattle.std.specs.List.{list_all}
-use Rattle.command_words.specs.Number.{is_digit, is_numeral, number_in}
+use Rattle.std.proofs.Common.{◌≡◌, ◌∙◌, ◌<◌, ◌^◌, sym, ap, true, arith}
+use Rattle.command_words.specs.Number.{is_numeral}
+use Rattle.command_words.proofs.Numerals.{no_number, same_number}
 use Rattle.command_words.proofs.number.number_in.Goals as goal
 
--- src/number.rt:31:1
-pub returns-in_default-3 : goal.returns-in_default-3
-returns-in_default-3 c = ?
+pub returns-in-Err : goal.returns-in-Err
+returns-in-Err c =
+    let numeral : is_numeral c.args.text.now ≡ true = ap is_numeral (sym c.as_bytes.ensures.value) ∙ (sym c.is_numeral.ensures ∙ c.if-not-is_numeral.false) in
+    let limit : c.args.most < 2 ^ 32 = c.ranges.most.fits in
+    no_number c.args.least c.args.most c.args.text.now numeral limit c.in-Err.ensures.value.0
