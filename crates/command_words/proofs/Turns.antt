@@ -169,7 +169,7 @@ pub short_fails : (rows : List Row) (pending : Option (Text × List Text)) (wait
 unfolding flags_fault
 short_fails rows pending waiting position word s =
     let f : IsFault (word_fault shape [] false waiting word (held rows pending)) =
-        rw (none_met waiting word, s.dashes, s.long, s.short, s.char) (λ e. cc) in
+    rw (none_met waiting word, s.dashes, s.long, s.short, s.char) (λ e. cc) in
     first_fails _ _ f
 
 -- a long word, by the option that it names
@@ -178,7 +178,7 @@ pub long_turn : (rows : List Row) (pending : Option (Text × List Text)) (waitin
     → IsFault (turn_fault shape [] (stand rows pending waiting position false) word)
 long_turn rows pending waiting position word l f =
     let g : IsFault (word_fault shape [] false waiting word (held rows pending)) =
-        rw (none_met waiting word, l.dashes, l.long, by_long l.name) f in
+    rw (none_met waiting word, l.dashes, l.long, by_long l.name) f in
     first_fails _ _ g
 
 pub long_fails : (o : Option Place) (value : Option Text) (h : Held) → IsFault (settle_fault rules false h) → IsFault (long_fault rules false (option_map rule_at o) value h)

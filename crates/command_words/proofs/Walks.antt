@@ -13,7 +13,7 @@ use Rattle.clap.proofs.FaultLemmas.{leaf_fault}
 use Rattle.command_words.specs.ClapCommand.{command_line}
 use Rattle.clap.specs.Walk.{idle, option}
 use Rattle.command_words.specs.Number.{Text}
-use Rattle.command_words.specs.Texts.{Place, Texts, Sofar, workers, rounds, command, count, text_at, with_text, give, give_next, wait_for, is_flag, joined_value, option_named, read_option, read_open, read_word, read_all, ended, nothing, texts_in}
+use Rattle.command_words.specs.Texts.{Place, Texts, Reading, workers, rounds, command, count, text_at, with_text, give, give_next, wait_for, is_flag, joined_value, option_named, read_option, read_open, read_word, read_all, ended, nothing, texts_in}
 use Rattle.command_words.proofs.Built.{built_line, id_of, rule_at, rules, shape}
 use Rattle.command_words.proofs.Look.{IsPlain, IsLong, IsShort, IsDashes, Look, long_named, look}
 use Rattle.command_words.proofs.Rows.{Holds, holds_has, holds_used, values_at, wanted}
@@ -62,15 +62,15 @@ abbrev pub StandsAt : Option Place → Texts → Bool → Walk → Type 0
 StandsAt None t closed w = Idle t closed w
 StandsAt (Some p) t closed w = Waits t p w × (closed ≡ false)
 
-abbrev pub Stands : Sofar → Walk → Type 0
+abbrev pub Stands : Reading → Walk → Type 0
 Stands s w = StandsAt s.waits s.texts s.is_closed w
 
 -- both go on, or the walk is lost where the reading ends
-abbrev pub Turn : Walk → Text → Option Sofar → Type 0
+abbrev pub Turn : Walk → Text → Option Reading → Type 0
 Turn w word o = MatchOption o (Loses w word) (λ s. (v : Walk) × Goes w word v × Stands s v)
 
-abbrev pub sofar : Texts → Option Place → Bool → Sofar
-sofar t waits closed = record { texts = t; waits = waits; is_closed = closed }
+abbrev pub reading : Texts → Option Place → Bool → Reading
+reading t waits closed = record { texts = t; waits = waits; is_closed = closed }
 
 absent : (p : Place) (t : Texts) (rows : List Row) → Holds t rows → is_some (text_at p t) ≡ false → has_row (id_of p) rows ≡ false
 absent p t rows h free = holds_has t rows h p ∙ free
@@ -132,7 +132,7 @@ module _ (rows : List Row) (position : ℕ) (word : Text) where
   )
 
   wait_turn : (p : Place) (t : Texts) → Holds t rows → is_some (text_at p t) ≡ false → is_option p ≡ true → Spot t position → Look word
-      → Turn (waiting_at p) word (read_word (Some p) word (sofar t (Some p) false))
+      → Turn (waiting_at p) word (read_word (Some p) word (reading t (Some p) false))
   wait_turn p t h free o spot (inl s) = rw (s.flag, free)
       (stand rows (Some (id_of p, word ∷ [])) idle position false, value_goes p s, filled p word t false rows position h free (spot_kept p word t position o spot))
   wait_turn p t h free o spot (inr (inl l)) = rw l.flag
@@ -163,7 +163,7 @@ module _ (rows : List Row) (pending : Option (Text × List Text)) (word : Text) 
       × (walked rules [] (idle_at position) word ≡ to_positional rules (arg_by_index rules position) word (idle_at position) (held rows pending))
 
   module _ (t : Texts) (settles : settle_fault rules false (held rows pending) ≡ []) (holds : Holds t (settled_rows rules pending rows)) where
-    next_first : Places 1 → t.command ≡ None → t.count ≡ None → Turn (idle_at 1) word (give_next word (sofar t None closed))
+    next_first : Places 1 → t.command ≡ None → t.count ≡ None → Turn (idle_at 1) word (give_next word (reading t None closed))
     next_first g a b =
         let free : is_some (text_at command t) ≡ false = rw a refl in
         rw (a) (
@@ -172,7 +172,7 @@ module _ (rows : List Row) (pending : Option (Text × List Text)) (word : Text) 
           filled command word t closed (settled_rows rules pending rows) 2 holds free (inr (inl (refl, refl, b))),
         )
 
-    next_second : Places 2 → is_some t.command ≡ true → t.count ≡ None → Turn (idle_at 2) word (give_next word (sofar t None closed))
+    next_second : Places 2 → is_some t.command ≡ true → t.count ≡ None → Turn (idle_at 2) word (give_next word (reading t None closed))
     next_second g a b =
         let free : is_some (text_at count t) ≡ false = rw b refl in
         rw (a, b) (
@@ -181,10 +181,10 @@ module _ (rows : List Row) (pending : Option (Text × List Text)) (word : Text) 
           filled count word t closed (settled_rows rules pending rows) 3 holds free (inr (inr (refl, a, refl))),
         )
 
-    next_third : Places 3 → is_some t.command ≡ true → is_some t.count ≡ true → Turn (idle_at 3) word (give_next word (sofar t None closed))
+    next_third : Places 3 → is_some t.command ≡ true → is_some t.count ≡ true → Turn (idle_at 3) word (give_next word (reading t None closed))
     next_third g a b = rw (a, b) (inl (fails_as _ _ g.0 (λ e. cc)))
 
-    next_turn : (position : ℕ) → Spot t position → Places position → Turn (idle_at position) word (give_next word (sofar t None closed))
+    next_turn : (position : ℕ) → Spot t position → Places position → Turn (idle_at position) word (give_next word (reading t None closed))
     next_turn position (inl s) g =
         let h : Places 1 = rw s.0 at g in
         rw s.0 (next_first h s.1 s.2)
@@ -270,7 +270,7 @@ module _ (rows : List Row) (pending : Option (Text × List Text)) (position : �
 
   module _ (t : Texts) (settles : settle_fault rules false (held rows pending) ≡ []) (holds : Holds t after) (spot : Spot t position) where
     wait_for_turn : (p : Place) → long_named l.name ≡ Some p → l.value ≡ None → (b : Bool) → is_some (text_at p t) ≡ b
-        → Turn open_at word (cond b None (Some (sofar t (Some p) false)))
+        → Turn open_at word (cond b None (Some (reading t (Some p) false)))
     wait_for_turn p e v true g = inr (
       stand after (Some (id_of p, [])) (option (id_of p)) position false,
       waits_goes p e v settles,
@@ -303,10 +303,10 @@ module _ (rows : List Row) (pending : Option (Text × List Text)) (position : �
     )
 
     give_turn : (p : Place) (v : Text) → long_named l.name ≡ Some p → l.value ≡ Some v → (b : Bool) → is_some (text_at p t) ≡ b
-        → Turn open_at word (cond b None (Some (sofar (with_text p v t) None false)))
+        → Turn open_at word (cond b None (Some (reading (with_text p v t) None false)))
     give_turn p v e j true g =
         let f : IsFault (long_fault rules false (option_map rule_at (long_named l.name)) l.value (held rows pending)) =
-            rw (e, j) (again_fault p v (holds_has t after holds p ∙ g)) in
+        rw (e, j) (again_fault p v (holds_has t after holds p ∙ g)) in
         inl (long_turn rows pending idle position word l f)
     give_turn p v e j false g = (
       stand (used (rule_at p) (v ∷ []) after) None idle position false,
@@ -314,38 +314,38 @@ module _ (rows : List Row) (pending : Option (Text × List Text)) (position : �
       used_up p v t after position holds g (spot_kept p v t position (named_option l.name p e) spot),
     )
 
-    option_turn : (o : Option Place) → long_named l.name ≡ o → (x : Option Text) → l.value ≡ x → Turn open_at word (read_option o word (sofar t None false))
+    option_turn : (o : Option Place) → long_named l.name ≡ o → (x : Option Text) → l.value ≡ x → Turn open_at word (read_option o word (reading t None false))
     option_turn None e x v =
         let f : IsFault (long_fault rules false (option_map rule_at (long_named l.name)) l.value (held rows pending)) =
-            rw e (λ k. cc) in
+        rw e (λ k. cc) in
         rw l.flag (inl (long_turn rows pending idle position word l f))
     option_turn (Some p) e None v = rw (l.joined, v) (wait_for_turn p e v (is_some (text_at p t)) refl)
     option_turn (Some p) e (Some x) v = rw (l.joined, v) (give_turn p x e v (is_some (text_at p t)) refl)
 
 -- ---- a word at any place
 
-turn_as : (w : Walk) (word : Text) (a b : Option Sofar) → a ≡ b → Turn w word b → Turn w word a
-turn_as w word a b e t = subst (λ (o : Option Sofar). Turn w word o) (sym e) t
+turn_as : (w : Walk) (word : Text) (a b : Option Reading) → a ≡ b → Turn w word b → Turn w word a
+turn_as w word a b e t = subst (λ (o : Option Reading). Turn w word o) (sym e) t
 
 idle_turn : (t : Texts) (closed : Bool) (rows : List Row) (pending : Option (Text × List Text)) (position : ℕ)
     → settle_fault rules false (held rows pending) ≡ [] → Holds t (settled_rows rules pending rows) → Spot t position
-    → (word : Text) → Look word → Turn (stand rows pending idle position closed) word (read_word None word (sofar t None closed))
+    → (word : Text) → Look word → Turn (stand rows pending idle position closed) word (read_word None word (reading t None closed))
 unfolding walked
 idle_turn t true rows pending position e h spot word l = next_turn rows pending word true t e h position spot (refl, refl)
 idle_turn t false rows pending position e h spot word (inl s) =
-    let is : read_word None word (sofar t None false) ≡ give_next word (sofar t None false) = rw (s.dashes, s.named, s.flag) refl in
+    let is : read_word None word (reading t None false) ≡ give_next word (reading t None false) = rw (s.dashes, s.named, s.flag) refl in
     turn_as (stand rows pending idle position false) word _ _ is
     (next_turn rows pending word false t e h position spot (plain_fault rows pending position word s, plain_next rows pending position word s))
 idle_turn t false rows pending position e h spot word (inr (inl l)) =
-    let is : read_word None word (sofar t None false) ≡ read_option (long_named l.name) word (sofar t None false) = rw (l.dashes, l.named) refl in
+    let is : read_word None word (reading t None false) ≡ read_option (long_named l.name) word (reading t None false) = rw (l.dashes, l.named) refl in
     turn_as (stand rows pending idle position false) word _ _ is
     (option_turn rows pending position word l t e h spot (long_named l.name) refl l.value refl)
 idle_turn t false rows pending position e h spot word (inr (inr (inl s))) =
-    let is : read_word None word (sofar t None false) ≡ None = rw (s.dashes, s.named, s.flag) refl in
+    let is : read_word None word (reading t None false) ≡ None = rw (s.dashes, s.named, s.flag) refl in
     turn_as (stand rows pending idle position false) word _ _ is
     (inl (short_fails rows pending idle position word s))
 idle_turn t false rows pending position e h spot word (inr (inr (inr d))) =
-    let is : read_word None word (sofar t None false) ≡ Some (sofar t None true) = rw d.dashes refl in
+    let is : read_word None word (reading t None false) ≡ Some (reading t None true) = rw d.dashes refl in
     turn_as (stand rows pending idle position false) word _ _ is (
       stand rows pending idle position true,
       record { fault = rw d.dashes refl; next = rw d.dashes refl },
@@ -361,12 +361,12 @@ idle_turn t false rows pending position e h spot word (inr (inr (inr d))) =
     )
 
 turn_at : (o : Option Place) (t : Texts) (closed : Bool) (w : Walk) (word : Text) → StandsAt o t closed w → Look word
-    → Turn w word (read_word o word (sofar t o closed))
+    → Turn w word (read_word o word (reading t o closed))
 turn_at None t closed w word i l = rw i.is (idle_turn t closed i.rows i.pending i.position i.settles i.holds i.spot word l)
 turn_at (Some p) t closed w word i l = rw (i.1, i.0.is)
     (wait_turn i.0.rows i.0.position word p t i.0.holds i.0.free i.0.option i.0.spot l)
 
-turn : (s : Sofar) (w : Walk) (word : Text) → Stands s w → Look word → Turn w word (read_word s.waits word s)
+turn : (s : Reading) (w : Walk) (word : Text) → Stands s w → Look word → Turn w word (read_word s.waits word s)
 turn s w word st l = turn_at s.waits s.texts s.is_closed w word st l
 
 -- ---- all the words
@@ -391,20 +391,20 @@ abbrev pub Agrees : Option Texts → Kinds → List Row → Type 0
 Agrees o fault rows = MatchOption o (IsFault fault) (λ t. (fault ≡ []) × Holds t rows)
 
 ends_at : (o : Option Place) (t : Texts) (closed : Bool) (w : Walk) → StandsAt o t closed w
-    → Agrees (ended (sofar t o closed)) (fault_from w []) (rows_from w [])
+    → Agrees (ended (reading t o closed)) (fault_from w []) (rows_from w [])
 unfolding walk_fault
 ends_at None t closed w i = rw i.is (i.settles, i.holds)
 ends_at (Some p) t closed w i = rw i.0.is (fails_as _ _ (settle_at p [] i.0.rows) (use_empty p i.0.rows))
 
-walks : (words : List Text) (s : Sofar) (w : Walk) → All IsUtf8 words → Stands s w
+walks : (words : List Text) (s : Reading) (w : Walk) → All IsUtf8 words → Stands s w
     → Agrees (option_and_then ended (read_all s words)) (fault_from w words) (rows_from w words)
 walks [] s w u st = ends_at s.waits s.texts s.is_closed w st
 walks (word ∷ rest) s w u st =
     go (read_word s.waits word s) (turn s w word st (look word (first_word word rest u)))
     (λ r v e. walks rest r v (other_words word rest u) e)
   where
-    go : (o : Option Sofar) → Turn w word o
-        → ((r : Sofar) (v : Walk) → Stands r v → Agrees (option_and_then ended (read_all r rest)) (fault_from v rest) (rows_from v rest))
+    go : (o : Option Reading) → Turn w word o
+        → ((r : Reading) (v : Walk) → Stands r v → Agrees (option_and_then ended (read_all r rest)) (fault_from v rest) (rows_from v rest))
         → Agrees (option_and_then ended (option_and_then (λ r. read_all r rest) o)) (fault_from w (word ∷ rest)) (rows_from w (word ∷ rest))
     go None (inl f) rec = stops w word rest f
     go None (inr g) rec = fails_as _ _ (goes_fault w g.0 word rest g.1) (doomed rest g.0 (other_words word rest u) g.2)

@@ -64,10 +64,7 @@ fn fault_of(error: &Error) -> WordsFault
 }
 
 /// Which word stands for what.
-pub(crate) fn split_words<'a>(
-    alloc: Global,
-    words: &'a [String],
-) -> Result<Given<'a>, WordsFault>
+pub(crate) fn split_words<'a>(alloc: Global, words: &'a [String]) -> Result<Given<'a>, WordsFault>
     ensures ok { IfOk result (λ given. texts_in (map string_bytes words.now) ≡ Some (texts_of given)) }
     ensures refused { result ≡ Err WordsFault.Refused → texts_in (map string_bytes words.now) ≡ None }
 {

@@ -2,18 +2,18 @@
 /// What the program is asked to do.
 #[derive(Clone, Copy, Debug, PartialEq, Eq)]
 pub enum Job {
-    /// Lists the matches of a script.
+    /// Answers a script by the matches of its triggers.
     Matches,
-    /// Answers a script.
+    /// Answers a script by a search.
     Solve,
-    /// Makes a script of a size from 2 to 4,000.
+    /// Writes the generated script of a size.
     Make {
-        /// The size.
+        /// The size, from 2 to 4,000.
         count: u32,
     },
-    /// Makes and answers a script of a size from 2 to 4,000.
+    /// Counts the matches of the generated script of a size.
     Drill {
-        /// The size.
+        /// The size, from 2 to 4,000.
         count: u32,
     },
 }
