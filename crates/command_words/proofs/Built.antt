@@ -1,5 +1,5 @@
 -- The command line as `clap` builds it.
-use Rattle.std.proofs.Common.{◌≡◌, ℕ, true, List, [], ◌∷◌, Some, None, refl, codes}
+use Rattle.std.proofs.Common.{◌≡◌, true, List, [], ◌∷◌, Some, refl, codes}
 use Rattle.clap.specs.Walk.{Rule, Text}
 use Rattle.clap.specs.Simple.{App, Shape, built, is_simple, new_rule}
 use Rattle.clap.specs.Faults.{is_simple_and_free}

@@ -1,11 +1,9 @@
 -- One word of `clap`'s walk over the command line.
-use Rattle.std.proofs.Common.{◌≡◌, ℕ, zero, suc, ◌+◌, ◌==◌, ◌&&◌, ◌||◌, Bool, true, false, not, List, [], ◌∷◌, ◌++◌, Option, Some, None, refl, sym, ap, ◌∙◌, ◌⊎◌, inl, inr, cond, codes, if◌then◌else◌, is_some, fold, option_map, length, MatchOption}
-use Rattle.std.specs.Prelude.{slice_get}
+use Rattle.std.proofs.Common.{◌≡◌, ℕ, ◌==◌, ◌&&◌, ◌||◌, Bool, true, false, List, [], ◌∷◌, ◌++◌, Option, Some, None, refl, sym, ap, ◌∙◌, ◌⊎◌, inl, inr, cond, codes, if◌then◌else◌, fold, option_map, length}
 use Rattle.std.specs.Option.{option_map_or}
-use Rattle.std.specs.Str.{bytes_eq, chars}
+use Rattle.std.specs.Str.{bytes_eq}
 use Rattle.clap.specs.Kinds.{Kinds, or_else, range_kinds}
-use Rattle.clap.specs.Faults.{bundle_fault, flag_word_fault, flags_fault, long_fault, positional_fault, repeat_fault, set_fault, settle_fault, turn_fault, use_fault, values_fault, walk_fault, word_fault}
-use Rattle.clap.specs.Lexer.{long_of, short_of}
+use Rattle.clap.specs.Faults.{flags_fault, long_fault, positional_fault, repeat_fault, set_fault, settle_fault, turn_fault, use_fault, values_fault, walk_fault, word_fault}
 use Rattle.clap.specs.Walk.{Held, Row, Rule, Waiting, Walk, arg_by_id, arg_by_index, arg_by_long, has_row, settled_rows, subcommand_met, to_positional, used, walked, is_pending, option_word, values_or_missing}
 use Rattle.clap.specs.Walk.{idle, option, positional}
 use Rattle.clap.specs.declared.error.kind.ErrorKind.TheVariants as kind

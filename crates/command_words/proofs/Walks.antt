@@ -1,23 +1,22 @@
 -- `clap`'s walk over the words is this crate's reading of them.
-use Rattle.std.proofs.Common.{◌≡◌, ◌<◌, ℕ, zero, suc, ◌&&◌, ◌||◌, Bool, true, false, List, [], ◌∷◌, Option, Some, None, refl, sym, ap, ap₂, subst, ◌∙◌, ◌⊎◌, inl, inr, cond, codes, is_some, fold, option_map, MatchOption, arith, length}
+use Rattle.std.proofs.Common.{◌≡◌, ℕ, ◌||◌, Bool, true, false, List, [], ◌∷◌, Option, Some, None, refl, sym, ap, ap₂, subst, ◌∙◌, ◌⊎◌, inl, inr, cond, codes, is_some, fold, option_map, MatchOption, arith}
 use Rattle.std.specs.Prelude.{option_and_then}
 use Rattle.std.specs.List.{All}
-use Rattle.std.specs.Option.{option_map_or}
 use Rattle.std.specs.Str.{bytes_eq, IsUtf8}
 use Rattle.std.proofs.lemmas.List.Elements.{All-drop, All-get_or}
 use Rattle.clap.specs.Kinds.{Kinds, or_else}
 use Rattle.clap.specs.Faults.{default_fault, defaults_fault, fault_of, long_fault, settle_fault, turn_fault, use_fault, walk_fault}
-use Rattle.clap.specs.Walk.{Held, Row, Rule, Walk, arg_by_index, has_row, is_pending, nothing_held, settled_rows, to_positional, used, walked, with_default}
+use Rattle.clap.specs.Walk.{Row, Rule, Walk, arg_by_index, has_row, is_pending, nothing_held, settled_rows, to_positional, used, walked, with_default}
 use Rattle.clap.specs.Simple.{matches_of}
 use Rattle.clap.proofs.FaultLemmas.{leaf_fault}
 use Rattle.command_words.specs.ClapCommand.{command_line}
 use Rattle.clap.specs.Walk.{idle, option}
 use Rattle.command_words.specs.Number.{Text}
-use Rattle.command_words.specs.Texts.{Place, Texts, Reading, workers, rounds, command, count, text_at, with_text, give, give_next, wait_for, is_flag, joined_value, option_named, read_option, read_open, read_word, read_all, ended, nothing, texts_in}
+use Rattle.command_words.specs.Texts.{Place, Texts, Reading, workers, rounds, command, count, text_at, with_text, give_next, read_option, read_word, read_all, ended, nothing, texts_in}
 use Rattle.command_words.proofs.Built.{built_line, id_of, rule_at, rules, shape}
-use Rattle.command_words.proofs.Look.{IsPlain, IsLong, IsShort, IsDashes, Look, long_named, look}
+use Rattle.command_words.proofs.Look.{IsPlain, IsLong, IsDashes, Look, long_named, look}
 use Rattle.command_words.proofs.Rows.{Holds, holds_has, holds_used, values_at, wanted}
-use Rattle.command_words.proofs.Turns.{IsFault, Goes, IsDoomed, Loses, and_false, by_long, doomed_end, doomed_turn, end_fault, fails_as, fault_from, first_fails, goes_fault, goes_rows, held, long_fails, long_turn, or_false, place_fault, plain_fault, plain_next, positional_settles, rows_from, second_fails, settle_at, settled_at, short_fails, stand, stops, use_again, use_empty, use_ok}
+use Rattle.command_words.proofs.Turns.{IsFault, Goes, IsDoomed, Loses, and_false, by_long, doomed_end, doomed_turn, end_fault, fails_as, fault_from, goes_fault, goes_rows, held, long_fails, long_turn, or_false, place_fault, plain_fault, plain_next, positional_settles, rows_from, second_fails, settle_at, settled_at, short_fails, stand, stops, use_again, use_empty, use_ok}
 
 -- ---- how the walk stands where this crate's reading does
 

@@ -1,6 +1,6 @@
 -- Which word stands for what, before any is looked at as a number or a command. Behind `--` a word
 -- with a hyphen is given to its place, and is no number and no command there.
-use Rattle.std.specs.Prelude.{ℕ, Bool, true, false, not, List, [], ◌∷◌, ◌==◌, ◌&&◌, Option, Some, None}
+use Rattle.std.specs.Prelude.{Bool, true, false, List, [], ◌∷◌, ◌==◌, Option, Some, None}
 use Rattle.std.specs.Prelude.{is_some, if◌then◌else◌, codes, option_and_then, option_map}
 use Rattle.std.specs.List.{list_any, before_first, after_first}
 use Rattle.std.specs.Option.{option_map_or}

@@ -1,8 +1,8 @@
-use Rattle.std.proofs.Common.{◌≡◌, ◌∙◌, IfOk, codes, rules, ap, ap₂, true}
+use Rattle.std.proofs.Common.{◌≡◌, ◌∙◌, codes, rules, ap, ap₂, true}
 use Rattle.std.proofs.lemmas.Result.{IfOk-weaker}
-use Rattle.clap.specs.Words.{App, Rule, Shape, app_of, new_app, new_rule, rule_of, with_rule}
+use Rattle.clap.specs.Words.{Shape, app_of, new_app, new_rule, rule_of, with_rule}
 use Rattle.clap.specs.Simple.{app_of_fields, on_top}
-use Rattle.command_words.specs.ClapCommand.{command_line, option_rule, command_shape}
+use Rattle.command_words.specs.ClapCommand.{option_rule}
 use Rattle.command_words.proofs.given.command_line.Goals as goal
 
 pub returns : goal.returns

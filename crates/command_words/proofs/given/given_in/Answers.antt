@@ -1,7 +1,5 @@
-use Rattle.std.proofs.Common.{◌≡◌, codes, Option, option_map, ap, ◌∙◌, List, ℕ}
-use Rattle.std.specs.Borrow.{Bor}
-use Rattle.clap.specs.Words.{Text, first_of, found_of, rows_of}
-use Rattle.clap.specs.Matches.{first_value}
+use Rattle.std.proofs.Common.{◌≡◌, codes, Option, ◌∙◌}
+use Rattle.clap.specs.Words.{Text, found_of}
 use Rattle.clap.proofs.WalkLemmas.{first_value-rows}
 use Rattle.command_words.specs.Texts.{Texts}
 use Rattle.command_words.proofs.given.given_in.Goals as goal

@@ -1,9 +1,9 @@
-use Rattle.std.proofs.Common.{◌≡◌, ◌⊎◌, ◌∙◌, sym, refl, ap, rules, map, string_bytes, List, ℕ, Option, Some, None, [], ◌∷◌, inl, inr, MatchOption, Ok, Err, true, String, Global, get_or}
+use Rattle.std.proofs.Common.{◌≡◌, ◌⊎◌, ◌∙◌, sym, refl, ap, map, string_bytes, List, Option, Some, None, [], ◌∷◌, inl, inr, String, Global, get_or}
 use Rattle.std.specs.List.{All}
 use Rattle.std.specs.Str.{IsUtf8}
 use Rattle.std.proofs.lemmas.List.Elements.{All-map}
 use Rattle.std.proofs.lemmas.Str.{IsUtf8-string_bytes}
-use Rattle.clap.specs.Kinds.{HasKind, IsAmong, Kinds}
+use Rattle.clap.specs.Kinds.{IsAmong, Kinds}
 use Rattle.clap.specs.Faults.{fault_of, is_simple_and_free}
 use Rattle.clap.specs.Simple.{matches_of, is_simple}
 use Rattle.clap.specs.Values.{kind_of}
@@ -12,9 +12,8 @@ use Rattle.clap.specs.declared.error.kind.ErrorKind.{ErrorKind}
 use Rattle.clap.specs.declared.error.kind.ErrorKind.TheVariants.{OutOfMemory}
 use Rattle.command_words.specs.declared.fault.WordsFault.{WordsFault}
 use Rattle.command_words.specs.declared.fault.WordsFault.TheVariants.{Memory, Refused}
-use Rattle.command_words.specs.declared.given.Given.{Given}
 use Rattle.command_words.specs.Number.{Text}
-use Rattle.command_words.specs.Texts.{Texts, texts_of, texts_in}
+use Rattle.command_words.specs.Texts.{Texts, texts_in}
 use Rattle.command_words.specs.ClapCommand.{command_line, texts_of_rows}
 use Rattle.command_words.proofs.Built.{line_simple, line_free}
 use Rattle.command_words.proofs.Rows.{holds_texts}

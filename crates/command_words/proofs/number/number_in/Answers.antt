@@ -1,6 +1,6 @@
-use Rattle.std.proofs.Common.{◌≡◌, ◌∙◌, ◌<◌, ◌^◌, sym, ap, true, arith}
+use Rattle.std.proofs.Common.{◌≡◌, ◌∙◌, ◌<◌, ◌^◌, sym, ap, true}
 use Rattle.command_words.specs.Number.{is_numeral}
-use Rattle.command_words.proofs.Numerals.{no_number, same_number}
+use Rattle.command_words.proofs.Numerals.{no_number}
 use Rattle.command_words.proofs.number.number_in.Goals as goal
 
 pub returns-in-Err : goal.returns-in-Err
