@@ -4,11 +4,13 @@
 mod fault;
 mod given;
 mod job;
+mod laws;
 mod number;
 mod words;
 
 pub use fault::WordsFault;
 pub use job::Job;
+pub use laws::hyphen_law;
 pub use words::{Words, read_words};
 
 #[cfg(test)]
