@@ -5,10 +5,9 @@ use Rattle.std.specs.List.{All}
 use Rattle.std.specs.Str.{bytes_eq, IsUtf8}
 use Rattle.std.proofs.lemmas.List.Elements.{All-drop, All-get_or}
 use Rattle.clap.specs.Kinds.{Kinds, or_else}
-use Rattle.clap.specs.Faults.{default_fault, defaults_fault, fault_of, long_fault, settle_fault, turn_fault, use_fault, walk_fault}
-use Rattle.clap.specs.Walk.{Row, Rule, Walk, arg_by_index, has_row, is_pending, nothing_held, settled_rows, to_positional, used, walked, with_default}
-use Rattle.clap.specs.Simple.{matches_of}
-use Rattle.clap.proofs.FaultLemmas.{leaf_fault}
+use Rattle.clap.specs.Faults.{default_fault, defaults_fault, entered_fault, fault_of, level_fault, long_fault, settle_fault, turn_fault, use_fault, walk_fault}
+use Rattle.clap.specs.Walk.{Row, Rule, Walk, arg_by_index, has_row, is_pending, nothing_held, settled_rows, to_positional, used, walk, walked, with_default}
+use Rattle.clap.specs.Simple.{entered, matches_of}
 use Rattle.command_words.specs.ClapCommand.{command_line}
 use Rattle.clap.specs.Walk.{idle, option}
 use Rattle.command_words.specs.Number.{Text}
@@ -471,9 +470,18 @@ starts = record {
     none_yet command = refl
     none_yet count = refl
 
+no_subcommand : (words : List Text) → fault_of command_line words ≡ level_fault shape [] nothing_held words false []
+no_subcommand words = go (walk rules [] nothing_held words).stopped
+  where
+    go : (stop : Option (Text × List Text))
+        → level_fault shape [] nothing_held words (is_some (entered built_line stop)) (entered_fault built_line stop)
+        ≡ level_fault shape [] nothing_held words false []
+    go None = refl
+    go (Some p) = refl
+
 fault_is : (words : List Text) → fault_of command_line words ≡ fault_from start words
 fault_is words =
-    leaf_fault built_line nothing_held words refl
+    no_subcommand words
     ∙ (ap (λ (k : Kinds). or_else (walk_fault shape [] start words) (or_else (end_fault (fold (walked rules []) start words)) (or_else k [])))
     (no_defaults (rows_from start words))
     ∙ ap (or_else (walk_fault shape [] start words)) (or_nothing (end_fault (fold (walked rules []) start words))))
