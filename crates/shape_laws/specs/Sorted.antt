@@ -11,7 +11,7 @@ mutual
   -- the row has this sort, where the variables have those; the symbols of functions count from 2
   pub data HasSort (functions : List Declared) (variables : List ℕ) (rows : List ShapeRow) : ℕ → ℕ → Type 0 where
     variable : {row index sort : ℕ} → slice_get rows row ≡ Some (Var index) → slice_get variables index ≡ Some sort → HasSort functions variables rows row sort
-    application : {row place : ℕ} {args : List ℕ} {f : Declared} → slice_get rows row ≡ Some (App (place + 2) args) → slice_get functions place ≡ Some f → HaveSorts functions variables rows args f.arguments → HasSort functions variables rows row f.sort
+    application : (place : ℕ) {row : ℕ} {args : List ℕ} {f : Declared} → slice_get rows row ≡ Some (App (place + 2) args) → slice_get functions place ≡ Some f → HaveSorts functions variables rows args f.arguments → HasSort functions variables rows row f.sort
 
   -- the rows have these sorts
   pub data HaveSorts (functions : List Declared) (variables : List ℕ) (rows : List ShapeRow) : List ℕ → List ℕ → Type 0 where
