@@ -1,2 +1,4 @@
 pub mod Growing
 pub mod Making
+pub mod Values
+pub mod Forms
