@@ -7,7 +7,7 @@ use Rattle.formula_shape.specs.Draft.{Draft}
 use Rattle.smt_names.specs.declared.value.Value.{Value}
 use Rattle.smt_names.specs.declared.value.Value.TheVariants.{Term, Formula}
 use Rattle.smt_names.specs.Value.{sort_of, row_of, self, complement, has_complement, other, swapped}
-use Rattle.smt_names.specs.Making.{Making, made, node, node_if}
+use Rattle.smt_names.specs.Making.{Making, made, ◌>>=◌, node, node_if}
 use Rattle.smt_forms.specs.declared.crossed.Crossed.{Crossed}
 use Rattle.smt_forms.specs.Nodes.{selves, all_have_complements, complements, both, true_form, not_form, and_form, or_form, implied, refuted, implies_form, or_of, and_of, crossed, xor_of_two, same_truth, xor_from, xor_form, equal_of_two, neighbours, all_equal, equal_form, distinct_of_two, distinct_from, distinct_pairs, never, all_distinct, distinct_of_many, distinct_form, ite_complement, ite_of_three, ite_form}
 use Rattle.shape_laws.specs.Sorted.{ArePlain, AreTruths, IsTruth}
@@ -234,7 +234,74 @@ module _ (s : Setting) (at : Place) where
       by (more a_is (more b_is none)) = good_as s draft (λ new v extends twofold. twofold.fits) (good_distinct_of_two sort draft a b sound a_is b_is)
   good_distinct sort draft (a ∷ b ∷ c ∷ parts) sound (more a_is rest) two_are = good_many sort draft a (a ∷ b ∷ c ∷ parts) sound a_is.0 a_is.1 (more a_is rest)
 
-  -- the complement of an ite is plain
+  -- an ite by the complements of its branches
+  abbrev ite_by : Value → Value → Value → Option (List ℕ) → Making Value
+  ite_by c a b against = do
+    first ← or_of at (other c) (self a)
+    second ← or_of at (self c) (self b)
+    opposite ← ite_complement at c against
+    both at (and_of first second) opposite
+
+  -- a complement is plain
   abbrev SomeNode : Draft → Option ShapeNode → Type 0
-  SomeNode d None = Unit {0}
+  SomeNode d None = ⊥
   SomeNode d (Some new) = PlainNode s d new
+
+  good_against : (d : Draft) → Sound s d → (itself : ShapeNode) (o : Option ShapeNode) → PlainNode s d itself → SomeNode d o → Good s d (FitsIn s) (both at itself o d)
+  good_against d sound itself None is against = absurd against
+  good_against d sound itself (Some new) is against = good_as s d (λ new v extends twofold. twofold.fits) (good_both s at d sound itself new is against)
+
+  good_opposite : (d : Draft) (c a b : Value) → Sound s d → Both s d c → Both s d a → Both s d b → Good s d SomeNode (ite_complement at c (Some (other a ∷ other b ∷ [])) d)
+  good_opposite d c a b sound c_is a_is b_is =
+      good_then s d _ (good_or_of d (other c) (other a) sound c_is.against a_is.against) λ m d1 k1 e1 m_is.
+      good_then s d1 _ (good_or_of d1 (self c) (other b) k1 (plain_later s d d1 e1 c_is.itself) (plain_later s d d1 e1 b_is.against)) λ n d2 k2 e2 n_is.
+      good_made s d2 (Some (and_of m n)) k2 (two d2 m n (plain_later s d1 d2 e2 m_is) n_is)
+
+  good_ite_plain : (d : Draft) (c a b : Value) → Sound s d → Both s d c → Both s d a → Both s d b → Good s d (FitsIn s) (ite_by c a b (Some (other a ∷ other b ∷ [])) d)
+  good_ite_plain d c a b sound c_is a_is b_is =
+      good_then s d _ (good_or_of d (other c) (self a) sound c_is.against a_is.itself) λ m d1 k1 e1 m_is.
+      let c1 = both_later s d d1 e1 c c_is in
+      let a1 = both_later s d d1 e1 a a_is in
+      let b1 = both_later s d d1 e1 b b_is in
+      good_then s d1 _ (good_or_of d1 (self c) (self b) k1 c1.itself b1.itself) λ n d2 k2 e2 n_is.
+      let c2 = both_later s d1 d2 e2 c c1 in
+      let a2 = both_later s d1 d2 e2 a a1 in
+      let b2 = both_later s d1 d2 e2 b b1 in
+      good_then s d2 _ (good_opposite d2 c a b k2 c2 a2 b2) λ o d3 k3 e3 o_is.
+      good_against d3 k3 (and_of m n) o (two d3 m n (plain_later s d2 d3 e3 (plain_later s d1 d2 e2 m_is)) (plain_later s d2 d3 e3 n_is)) o_is
+
+  two_truths : (d : Draft) (a b : ℕ) → Truth s d a → Truth s d b → Truths s d (a ∷ b ∷ [])
+  two_truths d a b first second = AreTruths.more first (AreTruths.more second AreTruths.none)
+
+  good_ite_alone : (d : Draft) (c a b : Value) → Sound s d → s.universal ≡ true → Both s d c → IsFormula s d a → IsFormula s d b → Good s d (FitsIn s) (ite_by c a b None d)
+  good_ite_alone d c a b sound may c_is a_is b_is =
+      good_then s d _ (good_truth s d at sound (Or (other c ∷ self a ∷ [])) (two_truths d (other c) (self a) (IsTruth.plain c_is.against) a_is.itself) may) λ m d1 k1 e1 m_is.
+      let c1 = both_later s d d1 e1 c c_is in
+      let b1 = formula_later s d d1 e1 b b_is in
+      good_then s d1 _ (good_truth s d1 at k1 (Or (self c ∷ self b ∷ [])) (two_truths d1 (self c) (self b) (IsTruth.plain c1.itself) b1.itself) may) λ n d2 k2 e2 n_is.
+      good_alone s at d2 k2 (and_of m n) (two_truths d2 m n (truth_later s d1 d2 e2 m_is) n_is) may
+
+  good_ite_of_three : (d : Draft) (c a b : Value) → Sound s d → Both s d c → IsFormula s d a → IsFormula s d b → Good s d (FitsIn s) (ite_of_three at c a b d)
+  good_ite_of_three d c a b sound c_is a_is b_is = by (all_have_complements (a ∷ b ∷ [])) refl
+    where
+      by : (x : Bool) → all_have_complements (a ∷ b ∷ []) ≡ x → Good s d (FitsIn s) (ite_by c a b (cond x (Some (other a ∷ other b ∷ [])) None) d)
+      by true all =
+          let first = and_parts (has_complement a) (has_complement b && true) all in
+          let second = and_parts (has_complement b) true first.1 in
+          good_ite_plain d c a b sound c_is (a_is.with first.0) (b_is.with second.0)
+      by false lacks = good_ite_alone d c a b sound (universal_of s d (more a_is (more b_is none)) lacks) c_is a_is b_is
+
+  -- the parts of an ite
+  abbrev pub Branches : Draft → List Value → Type 0
+  Branches d [] = Unit {0}
+  Branches d (c ∷ []) = Unit {0}
+  Branches d (c ∷ a ∷ []) = Unit {0}
+  Branches d (c ∷ a ∷ b ∷ []) = Both s d c × IsFormula s d a × IsFormula s d b
+  Branches d (c ∷ a ∷ b ∷ e ∷ parts) = Unit {0}
+
+  pub good_ite : (d : Draft) (parts : List Value) → Sound s d → Branches d parts → Good s d (FitsIn s) (ite_form at parts d)
+  good_ite d [] sound are = refuses
+  good_ite d (c ∷ []) sound are = refuses
+  good_ite d (c ∷ a ∷ []) sound are = refuses
+  good_ite d (c ∷ a ∷ b ∷ []) sound are = good_ite_of_three d c a b sound are.0 are.1 are.2
+  good_ite d (c ∷ a ∷ b ∷ e ∷ parts) sound are = refuses

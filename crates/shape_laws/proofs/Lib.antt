@@ -2,3 +2,4 @@ pub mod Growing
 pub mod Making
 pub mod Values
 pub mod Forms
+pub mod Applying
