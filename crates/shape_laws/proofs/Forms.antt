@@ -69,6 +69,24 @@ module _ (s : Setting) (draft : Draft) where
   refuted_of (last {v = v} fits) = refuted_last v (complement v) refl fits
   refuted_of (before {v = v} {next = next} {parts = parts} both rest) = refuted_more v next parts (refuted (next ∷ parts)) both (refuted_of rest)
 
+module _ (s : Setting) where
+  -- The parts of an equation: of one sort, and where they are formulas they have complements.
+  pub record Equated (sort : ℕ) (d : Draft) (v : Value) : Type 0 where
+    pub sort_is : sort_of v ≡ sort
+    pub fits : FitsIn s d v
+    pub both : sort ≡ 0 → Both s d v
+
+  pub equated_later : (sort : ℕ) (old new : Draft) → Extends old new → (v : Value) → Equated sort old v → Equated sort new v
+  equated_later sort old new extends v is = record { sort_is = is.sort_is; fits = fits_later s old new extends v is.fits; both = λ zero. both_later s old new extends v (is.both zero) }
+
+  -- the parts of an ite
+  abbrev pub Branches : Draft → List Value → Type 0
+  Branches d [] = Unit {0}
+  Branches d (c ∷ []) = Unit {0}
+  Branches d (c ∷ a ∷ []) = Unit {0}
+  Branches d (c ∷ a ∷ b ∷ []) = Both s d c × IsFormula s d a × IsFormula s d b
+  Branches d (c ∷ a ∷ b ∷ e ∷ parts) = Unit {0}
+
 module _ (s : Setting) (at : Place) where
   module _ (draft : Draft) (sound : Sound s draft) where
     pub good_true : Good s draft (Twofold s) (true_form at draft)
@@ -153,56 +171,47 @@ module _ (s : Setting) (at : Place) where
   good_xor draft [] sound are = refuses
   good_xor draft (a ∷ parts) sound (more is rest) = good_xor_from draft a parts sound (record { fits = is.0; bool = is.1; both = is.2 }) (each_map (λ v (p : FitsIn s draft v × (sort_of v ≡ 0) × Both s draft v). p.2) rest)
 
-  -- The parts of an equation: of one sort, and where they are formulas they have complements.
-  pub record Equated (sort : ℕ) (d : Draft) (v : Value) : Type 0 where
-    pub sort_is : sort_of v ≡ sort
-    pub fits : FitsIn s d v
-    pub both : sort ≡ 0 → Both s d v
-
-  pub equated_later : (sort : ℕ) (old new : Draft) → Extends old new → (v : Value) → Equated sort old v → Equated sort new v
-  equated_later sort old new extends v is = record { sort_is = is.sort_is; fits = fits_later s old new extends v is.fits; both = λ zero. both_later s old new extends v (is.both zero) }
-
-  good_equal_of_two : (sort : ℕ) (draft : Draft) (a b : Value) → Sound s draft → Equated sort draft a → Equated sort draft b → Good s draft (Twofold s) (equal_of_two at a b draft)
+  good_equal_of_two : (sort : ℕ) (draft : Draft) (a b : Value) → Sound s draft → Equated s sort draft a → Equated s sort draft b → Good s draft (Twofold s) (equal_of_two at a b draft)
   good_equal_of_two sort draft (Formula n c) b sound a_is b_is = good_same_truth draft (Formula n c) b sound (a_is.both (sym a_is.sort_is)) (b_is.both (sym a_is.sort_is))
   good_equal_of_two sort draft (Term row found) b sound a_is b_is =
       let left = a_is.fits.0 in
       let right = term_of s draft b found (b_is.sort_is ∙ sym a_is.sort_is) a_is.fits.1 b_is.fits in
       good_both s at draft sound (Equal true row (row_of b)) (Equal false row (row_of b)) (found, left, right) (found, left, right)
 
-  equated_all : (sort : ℕ) (old new : Draft) → Extends old new → {parts : List Value} → Each (Equated sort old) parts → Each (Equated sort new) parts
-  equated_all sort old new extends = each_map (equated_later sort old new extends)
+  equated_all : (sort : ℕ) (old new : Draft) → Extends old new → {parts : List Value} → Each (Equated s sort old) parts → Each (Equated s sort new) parts
+  equated_all sort old new extends = each_map (equated_later s sort old new extends)
 
   twofold_all : (old new : Draft) → Extends old new → {parts : List Value} → Each (Twofold s old) parts → Each (Twofold s new) parts
   twofold_all old new extends = each_map (twofold_later s old new extends)
 
-  good_neighbours : (sort : ℕ) (draft : Draft) (a : Value) (parts : List Value) → Sound s draft → Equated sort draft a → Each (Equated sort draft) parts → Good s draft (λ d vs. Each (Twofold s d) vs) (neighbours at a parts draft)
+  good_neighbours : (sort : ℕ) (draft : Draft) (a : Value) (parts : List Value) → Sound s draft → Equated s sort draft a → Each (Equated s sort draft) parts → Good s draft (λ d vs. Each (Twofold s d) vs) (neighbours at a parts draft)
   good_neighbours sort draft a [] sound a_is none = good_made s draft [] sound none
   good_neighbours sort draft a (b ∷ parts) sound a_is (more b_is rest) =
       good_then s draft _ (good_equal_of_two sort draft a b sound a_is b_is) λ first d keeps extends made_so.
-      good_then s d _ (good_neighbours sort d b parts keeps (equated_later sort draft d extends b b_is) (equated_all sort draft d extends rest)) λ others e keeps' extends' are.
+      good_then s d _ (good_neighbours sort d b parts keeps (equated_later s sort draft d extends b b_is) (equated_all sort draft d extends rest)) λ others e keeps' extends' are.
       good_made s e (first ∷ others) keeps' (more (twofold_later s d e extends' first made_so) are)
 
   -- formulas, each with its complement
   good_all : (draft : Draft) (parts : List Value) → Sound s draft → Each (Twofold s draft) parts → Good s draft (FitsIn s) (and_form at parts draft)
   good_all draft parts sound are = good_and draft sound parts (each_map (fits_of s draft) are)
 
-  pub good_equal : (sort : ℕ) (draft : Draft) (parts : List Value) → Sound s draft → Each (Equated sort draft) parts → Good s draft (FitsIn s) (equal_form at parts draft)
+  pub good_equal : (sort : ℕ) (draft : Draft) (parts : List Value) → Sound s draft → Each (Equated s sort draft) parts → Good s draft (FitsIn s) (equal_form at parts draft)
   good_equal sort draft [] sound are = refuses
   good_equal sort draft (a ∷ []) sound are = refuses
   good_equal sort draft (a ∷ b ∷ []) sound (more a_is (more b_is none)) = good_as s draft (λ new v extends twofold. twofold.fits) (good_equal_of_two sort draft a b sound a_is b_is)
   good_equal sort draft (a ∷ b ∷ c ∷ parts) sound (more a_is rest) = good_then s draft _ (good_neighbours sort draft a (b ∷ c ∷ parts) sound a_is rest) λ equations d keeps extends are. good_all d equations keeps are
 
-  good_distinct_of_two : (sort : ℕ) (draft : Draft) (a b : Value) → Sound s draft → Equated sort draft a → Equated sort draft b → Good s draft (Twofold s) (distinct_of_two at a b draft)
+  good_distinct_of_two : (sort : ℕ) (draft : Draft) (a b : Value) → Sound s draft → Equated s sort draft a → Equated s sort draft b → Good s draft (Twofold s) (distinct_of_two at a b draft)
   good_distinct_of_two sort draft a b sound a_is b_is = good_then s draft _ (good_equal_of_two sort draft a b sound a_is b_is) λ equation d keeps extends is. good_made s d (swapped equation) keeps (swapped_fits s d equation is.both)
 
-  good_distinct_from : (sort : ℕ) (draft : Draft) (a : Value) (parts : List Value) → Sound s draft → Equated sort draft a → Each (Equated sort draft) parts → Good s draft (λ d vs. Each (Twofold s d) vs) (distinct_from at a parts draft)
+  good_distinct_from : (sort : ℕ) (draft : Draft) (a : Value) (parts : List Value) → Sound s draft → Equated s sort draft a → Each (Equated s sort draft) parts → Good s draft (λ d vs. Each (Twofold s d) vs) (distinct_from at a parts draft)
   good_distinct_from sort draft a [] sound a_is none = good_made s draft [] sound none
   good_distinct_from sort draft a (b ∷ parts) sound a_is (more b_is rest) =
       good_then s draft _ (good_distinct_of_two sort draft a b sound a_is b_is) λ first d keeps extends made_so.
-      good_then s d _ (good_distinct_from sort d a parts keeps (equated_later sort draft d extends a a_is) (equated_all sort draft d extends rest)) λ others e keeps' extends' are.
+      good_then s d _ (good_distinct_from sort d a parts keeps (equated_later s sort draft d extends a a_is) (equated_all sort draft d extends rest)) λ others e keeps' extends' are.
       good_made s e (first ∷ others) keeps' (more (twofold_later s d e extends' first made_so) are)
 
-  good_distinct_pairs : (sort : ℕ) (draft : Draft) (parts : List Value) → Sound s draft → Each (Equated sort draft) parts → Good s draft (λ d vs. Each (Twofold s d) vs) (distinct_pairs at parts draft)
+  good_distinct_pairs : (sort : ℕ) (draft : Draft) (parts : List Value) → Sound s draft → Each (Equated s sort draft) parts → Good s draft (λ d vs. Each (Twofold s d) vs) (distinct_pairs at parts draft)
   good_distinct_pairs sort draft [] sound none = good_made s draft [] sound none
   good_distinct_pairs sort draft (a ∷ parts) sound (more a_is rest) =
       good_then s draft _ (good_distinct_from sort draft a parts sound a_is rest) λ first d keeps extends made_so.
@@ -225,12 +234,12 @@ module _ (s : Setting) (at : Place) where
       good_all d differences keeps made_so
 
   pub good_distinct : (sort : ℕ) (draft : Draft) (parts : List Value) → Sound s draft → Each (λ v. (sort_of v ≡ sort) × FitsIn s draft v) parts
-      → ((a b : Value) → parts ≡ a ∷ b ∷ [] → Each (Equated sort draft) parts) → Good s draft (FitsIn s) (distinct_form at parts draft)
+      → ((a b : Value) → parts ≡ a ∷ b ∷ [] → Each (Equated s sort draft) parts) → Good s draft (FitsIn s) (distinct_form at parts draft)
   good_distinct sort draft [] sound are two_are = refuses
   good_distinct sort draft (a ∷ []) sound are two_are = refuses
   good_distinct sort draft (a ∷ b ∷ []) sound are two_are = by (two_are a b refl)
     where
-      by : Each (Equated sort draft) (a ∷ b ∷ []) → Good s draft (FitsIn s) (distinct_of_two at a b draft)
+      by : Each (Equated s sort draft) (a ∷ b ∷ []) → Good s draft (FitsIn s) (distinct_of_two at a b draft)
       by (more a_is (more b_is none)) = good_as s draft (λ new v extends twofold. twofold.fits) (good_distinct_of_two sort draft a b sound a_is b_is)
   good_distinct sort draft (a ∷ b ∷ c ∷ parts) sound (more a_is rest) two_are = good_many sort draft a (a ∷ b ∷ c ∷ parts) sound a_is.0 a_is.1 (more a_is rest)
 
@@ -291,15 +300,7 @@ module _ (s : Setting) (at : Place) where
           good_ite_plain d c a b sound c_is (a_is.with first.0) (b_is.with second.0)
       by false lacks = good_ite_alone d c a b sound (universal_of s d (more a_is (more b_is none)) lacks) c_is a_is b_is
 
-  -- the parts of an ite
-  abbrev pub Branches : Draft → List Value → Type 0
-  Branches d [] = Unit {0}
-  Branches d (c ∷ []) = Unit {0}
-  Branches d (c ∷ a ∷ []) = Unit {0}
-  Branches d (c ∷ a ∷ b ∷ []) = Both s d c × IsFormula s d a × IsFormula s d b
-  Branches d (c ∷ a ∷ b ∷ e ∷ parts) = Unit {0}
-
-  pub good_ite : (d : Draft) (parts : List Value) → Sound s d → Branches d parts → Good s d (FitsIn s) (ite_form at parts d)
+  pub good_ite : (d : Draft) (parts : List Value) → Sound s d → Branches s d parts → Good s d (FitsIn s) (ite_form at parts d)
   good_ite d [] sound are = refuses
   good_ite d (c ∷ []) sound are = refuses
   good_ite d (c ∷ a ∷ []) sound are = refuses

@@ -19,7 +19,7 @@ use Rattle.smt_forms.specs.Moved.{moved_numbers, moved_row, moved_rows, moved_no
 use Rattle.shape_laws.specs.Sorted.{HasSort, HaveSorts, IsPlain, ArePlain}
 use Rattle.shape_laws.specs.Sorted.HasSort.{variable, application}
 use Rattle.shape_laws.specs.Sound.{Fits, IsWhole, IsFunction, IsDefinition, inside}
-use Rattle.shape_laws.proofs.Growing.{Extends, sort_stands}
+use Rattle.shape_laws.proofs.Growing.{Extends, sort_stands, plain_stands}
 use Rattle.shape_laws.proofs.Making.{Setting, Sort, Sorts, Plain, Plains, Sound, Good, makes, refuses, sort_later, sorts_later, plain_later, good_then, good_made, good_as, good_row}
 use Rattle.shape_laws.proofs.Values.{PlainNode, good_plain, FitsIn}
 
@@ -168,3 +168,15 @@ module _ (s : Setting) (at : Place) (functions_are : (n : ℕ) (f : Declared) �
         good_moved_nodes new keeps (rows_later draft new extends rows have) (moved ++ n ∷ [])
             (λ k within inner. ⊎_elim (λ p. subst (λ m. Plain s new m) (sym p.1) (plain_later s draft new extends (nodes k p.0 inner))) (λ p. subst (λ m. Plain s new m) (sym p.1) is_so) (pushed_at moved n k within))
             (front ++ next ∷ []) rest (omega (arith, same, length-append front (next ∷ []), length-append moved (n ∷ []))) (append_assoc front (next ∷ []) rest ∙ split)
+
+  pub good_unfolded : (draft : Draft) → Sound s draft → (args : List Value) → Sorts s draft (map row_of args) d.parameters → Good s draft (λ new v. FitsIn s new v) (unfolded at d args draft)
+  good_unfolded draft sound args given =
+      good_then s draft _ (good_moved_rows (map row_of args) draft sound given [] (λ r within. absurd (omega (arith, within))) [] d.rows refl refl) λ rows d1 k1 e1 rows_are.
+      good_then s d1 _ (good_moved_nodes rows rows_are.1 d1 k1 rows_are.0 [] (λ n within. absurd (omega (arith, within))) [] d.nodes refl refl) λ nodes d2 k2 e2 nodes_are.
+      good_made s d2 (moved_value rows nodes d.value) k2 (value_moved d2 rows nodes rows_are.1 nodes_are.1 nodes_are.2 nodes_are.0 d.value is.fits)
+    where
+      value_moved : (new : Draft) (rows nodes : List ℕ) → length rows ≡ length d.rows → length nodes ≡ length d.nodes → RowsMoved new rows → NodesMoved new nodes → (v : Value) → Fits s.functions d.parameters false (inside d) v → FitsIn s new (moved_value rows nodes v)
+      value_moved new rows nodes all_rows all_nodes have_rows have_nodes (Term r sort) fits = (row_moved rows all_rows new have_rows r sort fits.0, fits.1)
+      value_moved new rows nodes all_rows all_nodes have_rows have_nodes (Formula n None) fits = absurd (true≢false (sym fits.1))
+      value_moved new rows nodes all_rows all_nodes have_rows have_nodes (Formula n (Some c)) fits =
+          (have_nodes n (subst (λ k. n < k) (sym all_nodes) (plain_stands fits.0)) fits.0, have_nodes c (subst (λ k. c < k) (sym all_nodes) (plain_stands fits.1)) fits.1)
