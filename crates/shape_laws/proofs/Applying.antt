@@ -26,7 +26,7 @@ use Rattle.shape_laws.proofs.Values.{FitsIn, Both, IsFormula, fits_later, formul
 use Rattle.shape_laws.proofs.Moving.{good_application, good_unfolded}
 use Rattle.shape_laws.proofs.Forms.{Implied, last, before, good_true, good_and, good_or, good_implies, good_not, good_xor, Equated, good_equal, good_distinct, Branches, good_ite}
 
-eq_from : (m n : ℕ) → (m == n) ≡ true → m ≡ n
+pub eq_from : (m n : ℕ) → (m == n) ≡ true → m ≡ n
 eq_from m n h = grind arith
 
 some_from : (n : ℕ) → (n == 0) ≡ false → 1 ≤ n

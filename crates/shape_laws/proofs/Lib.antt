@@ -4,3 +4,7 @@ pub mod Values
 pub mod Forms
 pub mod Moving
 pub mod Applying
+pub mod Reaching
+pub mod Checks
+pub mod Scopes
+pub mod Terms
