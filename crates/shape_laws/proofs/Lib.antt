@@ -7,4 +7,6 @@ pub mod Applying
 pub mod Reaching
 pub mod Checks
 pub mod Scopes
+pub mod Rooted
+pub mod Foralls
 pub mod Terms

@@ -1,0 +1,240 @@
+-- What a forall makes, fits.
+use Rattle.std.proofs.Common.{◌≡◌, ℕ, zero, suc, ◌+◌, ◌<◌, ◌≤◌, Bool, true, false, cond, not, ◌&&◌, ◌||◌, ◌==◌, nat_le, List, [], ◌∷◌, ◌++◌, map, length, get_or, slice_get, Option, Some, None, All, refl, sym, ap, subst, ◌∙◌, append-nil, length-append, true≢false, arith}
+use Rattle.std.proofs.lemmas.Option.{none-some, same_Some, slice_get_within, slice_get-get_or}
+use Rattle.std.proofs.lemmas.List.Elements.{All-nil, All-cons, All-append, All-weaker, All-map}
+use Rattle.term_table.specs.ListLaws.{slice_get-push, All-slice_get}
+use Rattle.term_table.specs.declared.trigger.Trigger.{Trigger}
+use Rattle.term_table.specs.Trigger.{IsValid}
+use Rattle.smt_text.specs.Word.{Word}
+use Rattle.smt_text.specs.declared.token.Place.{Place}
+use Rattle.formula_shape.specs.declared.shape_row.ShapeRow.{ShapeRow}
+use Rattle.formula_shape.specs.declared.shape_row.ShapeRow.TheVariants.{Var, App}
+use Rattle.formula_shape.specs.declared.shape_node.ShapeNode.{ShapeNode}
+use Rattle.formula_shape.specs.declared.shape_node.ShapeNode.TheVariants.{Equal, Atom, And, Or, Forall}
+use Rattle.formula_shape.specs.declared.shape_forall.ShapeForall.{ShapeForall}
+use Rattle.formula_shape.specs.Draft.{Draft, IsDraft, FitsTrigger, FitsForall, with_forall, shape_forall}
+use Rattle.formula_shape.specs.KeptLaws.{IsDraft-with_forall}
+use Rattle.smt_names.specs.declared.value.Value.{Value}
+use Rattle.smt_names.specs.declared.value.Value.TheVariants.{Term, Formula}
+use Rattle.smt_names.specs.declared.bound.Bound.{Bound}
+use Rattle.smt_names.specs.declared.stands.Stands.{Stands}
+use Rattle.smt_names.specs.declared.stands.Stands.TheVariants.{Given, Variable}
+use Rattle.smt_names.specs.declared.syntax_fault.SyntaxFault.{SyntaxFault}
+use Rattle.smt_names.specs.declared.refusal.Refusal.{Refusal}
+use Rattle.smt_names.specs.declared.refusal.Refusal.TheVariants as refusal
+use Rattle.smt_names.specs.Value.{sort_of, self}
+use Rattle.smt_names.specs.Making.{Making, made, ◌>>◌, want, node, put_forall}
+use Rattle.smt_names.specs.Names.{State, Scope, Declared}
+use Rattle.shape_patterns.specs.Patterns.{size_of, trigger_of, occurs}
+use Rattle.shape_patterns.specs.Roots.{positive_row, atom_row, no_variable, root_of, small_enough, small_root}
+use Rattle.shape_patterns.specs.Triggers.{each_occurs, trigger_made, rooted_trigger}
+use Rattle.smt_terms.specs.Meant.{Meaning, Meant, End, Token, Group, from, no_more, at_least, exactly, Listed, other_sort, some_bindings, no_binding, attributes_of}
+use Rattle.smt_terms.specs.Terms.{token_value, truth, variables_from, Attribute, attribute_if, is_pattern_key, patterns_in, Body, is_annotation, body_of, pattern_root, pattern_roots, pattern_list, trigger, triggers, some_trigger, inside_of, quantified, body_forall, bound_forall, checked_forall, forall_value}
+use Rattle.shape_laws.specs.Sorted.{HasSort, IsPlain, IsTruth, IsSorted}
+use Rattle.shape_laws.specs.Sound.{Fits, IsWhole, Stood, may_hold, IsScope}
+use Rattle.shape_laws.proofs.Growing.{Keeps, keeps_all, keeps_none, Extends, extends_itself, rows_keep, sort_kept, plain_kept, sort_stands, plain_stands, truth_kept}
+use Rattle.shape_laws.proofs.Making.{Setting, Sort, Plain, Sound, Good, makes, refuses, plain_later, sort_later, good_then, good_made, good_want, good_as, good_node}
+use Rattle.shape_laws.proofs.Values.{FitsIn, formula_of, Each, none, more, each_map, each_append}
+use Rattle.shape_laws.proofs.Moving.{variable_of}
+use Rattle.shape_laws.proofs.Applying.{good_want_named, le_from}
+use Rattle.shape_laws.proofs.Reaching.{reached_sorted, reaches_no_forall}
+use Rattle.shape_laws.proofs.Checks.{AllMean, end, token, group, from_mean, passes_exactly, passes_at_least, passes_no_more, passes_attributes_of, good_some_bindings, good_other_sort}
+use Rattle.shape_laws.proofs.Scopes.{no_definition, setting, GoodMeaning, scope_later, good_token, good_formula, good_value}
+use Rattle.shape_laws.proofs.Rooted.{size_later, IsRoot, MakesValid}
+
+-- Variables.
+-- variables from an index on, each with a sort that is not Bool
+pub data AreVariables : ℕ → List Bound → Type 0 where
+  no_more_variables : {index : ℕ} → AreVariables index []
+  variable_first : {index sort : ℕ} {name : List ℕ} {bound : List Bound} → 1 ≤ sort → AreVariables (suc index) bound → AreVariables index (record { name = name; stands = Variable index sort } ∷ bound)
+
+abbrev pub sort_of_stands : Stands → ℕ
+sort_of_stands (Given v) = sort_of v
+sort_of_stands (Variable index sort) = sort
+
+-- the sorts of variables
+abbrev pub sorts_of : List Bound → List ℕ
+sorts_of bound = map (λ (b : Bound). sort_of_stands b.stands) bound
+
+pub others_of : {index : ℕ} {bound : List Bound} → AreVariables index bound → All (λ sort. 1 ≤ sort) (sorts_of bound)
+others_of no_more_variables = All-nil (λ sort. 1 ≤ sort)
+others_of (variable_first {sort = sort} {bound = bound} some rest) = All-cons (λ k. 1 ≤ k) sort (sorts_of bound) some (others_of rest)
+
+pub count_of : (bound : List Bound) → length (sorts_of bound) ≡ length bound
+count_of [] = refl
+count_of (b ∷ bound) = ap suc (count_of bound)
+
+behind : (xs : List ℕ) (x : ℕ) (ys : List ℕ) → slice_get (xs ++ x ∷ ys) (length xs) ≡ Some x
+behind [] x ys = refl
+behind (y ∷ xs) x ys = behind xs x ys
+
+again : {X : Type 0} (xs : List X) (x : X) (ys : List X) → (xs ++ x ∷ []) ++ ys ≡ xs ++ x ∷ ys
+again [] x ys = refl
+again (y ∷ xs) x ys = ap (λ zs. y ∷ zs) (again xs x ys)
+
+-- each of them stands for the variable at its index
+stand_of : (functions : List Declared) (universal : Bool) (draft : Draft) (front : List ℕ) {index : ℕ} {bound : List Bound} → length front ≡ index → AreVariables index bound
+    → All (λ (b : Bound). Stood functions (front ++ sorts_of bound) universal draft b.stands) bound
+stand_of functions universal draft front same no_more_variables = All-nil (λ (b : Bound). Stood functions (front ++ []) universal draft b.stands)
+stand_of functions universal draft front {index} same (variable_first {sort = sort} {name = name} {bound = bound} some rest) =
+    let P : Bound → Type 0 = λ (b : Bound). Stood functions (front ++ sort ∷ sorts_of bound) universal draft b.stands in
+    All-cons P (record { name = name; stands = Variable index sort }) bound (subst (λ k. slice_get (front ++ sort ∷ sorts_of bound) k ≡ Some sort) same (behind front sort (sorts_of bound)))
+    (subst (λ (all : List ℕ). All (λ (b : Bound). Stood functions all universal draft b.stands) bound) (again front sort (sorts_of bound))
+        (stand_of functions universal draft (front ++ sort ∷ []) (omega (arith, same, length-append front (sort ∷ []))) rest))
+
+module _ (s : Setting) where
+  some_sort : (sort : ℕ) → not (sort == 0) ≡ true → 1 ≤ sort
+  some_sort zero other = absurd (true≢false (sym other))
+  some_sort (suc n) other = omega arith
+
+  -- no binding stands first
+  abbrev NoBinding : Meant → Type 0
+  NoBinding (Group paren meaning (Token name given) trees) = ⊥
+  NoBinding trees = Unit {0}
+
+  good_no_binding : (draft : Draft) (refusal : Refusal) (trees : Meant) → Sound s draft → Good s draft (λ _ _. NoBinding trees) (no_binding refusal trees draft)
+  good_no_binding draft refusal (Group paren meaning (Token name given) trees) sound = refuses
+  good_no_binding draft refusal trees sound = good_made s draft (tt {0}) sound (tt {0})
+
+  -- variables, no more than the bindings are
+  record Variables (index : ℕ) (trees : Meant) (bound : List Bound) : Type 0 where
+    are : AreVariables index bound
+    few : (n : ℕ) → NoBinding (from n trees) → length bound ≤ n
+
+  good_variables : (draft : Draft) (state : State) (index : ℕ) (trees : Meant) → Sound s draft → Good s draft (λ _ bound. Variables index trees bound) (variables_from state index trees draft)
+  good_variables draft state index (Group paren meaning (Token name given) after) sound =
+      good_then s draft _ (good_other_sort s draft state name.place given sound) λ sort d1 k1 e1 other.
+      good_then s d1 _ (good_variables d1 state (index + 1) after k1) λ bound d2 k2 e2 rest.
+      good_made s d2 (record { name = name.text; stands = Variable index sort } ∷ bound) k2 (record { are = variable_first (some_sort sort other) (subst (λ k. AreVariables k bound) next rest.are); few = few bound rest.few })
+    where
+      next : index + 1 ≡ suc index
+      next = omega arith
+
+      few : (bound : List Bound) → ((n : ℕ) → NoBinding (from n after) → length bound ≤ n) → (n : ℕ) → NoBinding (from n (Group paren meaning (Token name given) after)) → suc (length bound) ≤ n
+      few bound rest zero isnt = absurd isnt
+      few bound rest (suc n) isnt = omega (arith, rest n isnt)
+  good_variables draft state index trees sound = good_made s draft [] sound (record { are = no_more_variables; few = λ n isnt. omega arith })
+
+-- Bodies.
+abbrev AttributeMeans : Attribute → Type 0
+AttributeMeans attribute = AllMean GoodMeaning attribute.behind
+
+attributes_mean : (b : Bool) (attribute : Attribute) → AttributeMeans attribute → Each AttributeMeans (attribute_if b attribute)
+attributes_mean true attribute is = more is none
+attributes_mean false attribute is = none
+
+patterns_mean : (trees : Meant) → AllMean GoodMeaning trees → Each AttributeMeans (patterns_in trees)
+patterns_mean End all = none
+patterns_mean (Token word trees) (token rest) = each_append (attributes_mean (is_pattern_key word) (record { key = word; behind = trees }) rest) (patterns_mean trees rest)
+patterns_mean (Group paren meaning inner trees) (group is within rest) = patterns_mean trees rest
+
+record BodyMeans (body : Body) : Type 0 where
+  tree_means : AllMean GoodMeaning body.tree
+  patterns_are : Each AttributeMeans body.patterns
+
+good_body : (s : Setting) (draft : Draft) (so_far : List Attribute) (trees : Meant) → Sound s draft → Each AttributeMeans so_far → AllMean GoodMeaning trees → Good s draft (λ _ body. BodyMeans body) (body_of so_far trees draft)
+good_body s draft so_far (Group paren meaning (Token head parts) trees) sound so (group is (token within) rest) =
+    by (λ d keeps. good_body s d (so_far ++ patterns_in (from 1 parts)) parts keeps (each_append so (patterns_mean (from 1 parts) (from_mean 1 within))) within) (is_annotation head)
+  where
+    by : ((d : Draft) → Sound s d → Good s d (λ _ body. BodyMeans body) (body_of (so_far ++ patterns_in (from 1 parts)) parts d)) → (b : Bool)
+        → Good s draft (λ _ body. BodyMeans body) (cond b (attributes_of head.place parts >> body_of (so_far ++ patterns_in (from 1 parts)) parts) (made (record { patterns = so_far; tree = Group paren meaning (Token head parts) trees })) draft)
+    by deeper true = good_then s draft _ (passes_attributes_of s draft head.place parts sound) λ _ d1 k1 e1 _. deeper d1 k1
+    by deeper false = good_made s draft (record { patterns = so_far; tree = Group paren meaning (Token head parts) trees }) sound (record { tree_means = group is (token within) rest; patterns_are = so })
+good_body s draft so_far trees sound so all = good_made s draft (record { patterns = so_far; tree = trees }) sound (record { tree_means = all; patterns_are = so })
+
+-- Roots.
+-- how many trees there are
+abbrev count : Meant → ℕ
+count End = 0
+count (Token word trees) = suc (count trees)
+count (Group paren meaning inner trees) = suc (count trees)
+
+abbrev IsEnd : Meant → Type 0
+IsEnd End = Unit {0}
+IsEnd trees = ⊥
+
+from_end : (n : ℕ) (trees : Meant) → IsEnd (from n trees) → count trees ≤ n
+from_end n End is = omega arith
+from_end zero (Token word trees) is = absurd is
+from_end zero (Group paren meaning inner trees) is = absurd is
+from_end (suc n) (Token word trees) is = omega (arith, from_end n trees is)
+from_end (suc n) (Group paren meaning inner trees) is = omega (arith, from_end n trees is)
+
+abbrev positive : ShapeNode → Bool
+positive (Atom p r) = p
+positive x = false
+
+atom_of : {functions : List Declared} {variables : List ℕ} {rows : List ShapeRow} {nodes : List ShapeNode} (n r : ℕ) → slice_get nodes n ≡ Some (Atom true r) → IsPlain functions variables rows nodes n → HasSort functions variables rows r 0
+atom_of n r at (IsPlain.equation {left = left} {right = right} {positive = p} stands x y) = absurd (other_kind (same_Some (Atom true r) (Equal p left right) (sym at ∙ stands)))
+  where
+    other_kind : ◌≡◌ {A = ShapeNode} (Atom true r) (Equal p left right) → ⊥
+    other_kind same = true≢false (ap positive same)
+atom_of {functions} {variables} {rows} n r at (IsPlain.atom {row = row} {positive = p} stands x) = subst (λ k. HasSort functions variables rows k 0) (sym (ap row_in (same_Some (Atom true r) (Atom p row) (sym at ∙ stands)))) x
+  where
+    row_in : ShapeNode → ℕ
+    row_in (Atom q k) = k
+    row_in y = 0
+atom_of n r at (IsPlain.each {parts = parts} stands x) = absurd (other_kind (same_Some (Atom true r) (And parts) (sym at ∙ stands)))
+  where
+    other_kind : ◌≡◌ {A = ShapeNode} (Atom true r) (And parts) → ⊥
+    other_kind same = true≢false (ap positive same)
+atom_of n r at (IsPlain.one {parts = parts} stands x) = absurd (other_kind (same_Some (Atom true r) (Or parts) (sym at ∙ stands)))
+  where
+    other_kind : ◌≡◌ {A = ShapeNode} (Atom true r) (Or parts) → ⊥
+    other_kind same = true≢false (ap positive same)
+
+module _ (s : Setting) (others : All (λ sort. 1 ≤ sort) s.variables) (plain : s.universal ≡ false) where
+  -- an application that has a sort
+  record IsApplied (draft : Draft) (r : ℕ) : Type 0 where
+    symbol : ℕ
+    args : List ℕ
+    stands : slice_get draft.rows r ≡ Some (App symbol args)
+    sort : ℕ
+    sorted : Sort s draft r sort
+
+  applied_later : (old new : Draft) → Extends old new → (r : ℕ) → IsApplied old r → IsApplied new r
+  applied_later old new extends r is = record { symbol = is.symbol; args = is.args; stands = rows_keep old new extends r (App is.symbol is.args) is.stands; sort = is.sort; sorted = sort_later s old new extends is.sorted }
+
+  row_at : (draft : Draft) (r sort : ℕ) → Sort s draft r sort → slice_get draft.rows r ≡ Some (get_or draft.rows r (Var 0))
+  row_at draft r sort has = slice_get-get_or draft.rows r (Var 0) (sort_stands has)
+
+  good_no_variable : (draft : Draft) (at : Place) (r sort : ℕ) → Sound s draft → Sort s draft r sort → (row : ShapeRow) → slice_get draft.rows r ≡ Some row → Good s draft (λ d k. IsApplied d k) (no_variable at r row draft)
+  good_no_variable draft at r sort sound has (Var index) stands = refuses
+  good_no_variable draft at r sort sound has (App symbol args) stands = good_made s draft r sound (record { symbol = symbol; args = args; stands = stands; sort = sort; sorted = has })
+
+  -- an atom's row is an application, since no variable is a formula
+  atom_applied : (draft : Draft) (r : ℕ) → Sort s draft r 0 → (row : ShapeRow) → slice_get draft.rows r ≡ Some row → IsApplied draft r
+  atom_applied draft r has (Var index) stands = absurd (omega (arith, All-slice_get (λ k. 1 ≤ k) s.variables index 0 others (variable_of r index 0 stands has)))
+  atom_applied draft r has (App symbol args) stands = record { symbol = symbol; args = args; stands = stands; sort = 0; sorted = has }
+
+  good_atom_row : (draft : Draft) (at : Place) (n : ℕ) → Sound s draft → Plain s draft n → (x : ShapeNode) → slice_get draft.nodes n ≡ Some x → Good s draft (λ d k. IsApplied d k) (atom_row at (positive_row x) draft)
+  good_atom_row draft at n sound is (Atom true r) stands = let has = atom_of n r stands is in good_made s draft r sound (atom_applied draft r has (get_or draft.rows r (Var 0)) (row_at draft r 0 has))
+  good_atom_row draft at n sound is (Atom false r) stands = refuses
+  good_atom_row draft at n sound is (Equal p a b) stands = refuses
+  good_atom_row draft at n sound is (And parts) stands = refuses
+  good_atom_row draft at n sound is (Or parts) stands = refuses
+  good_atom_row draft at n sound is (Forall index) stands = refuses
+
+  good_root_of : (draft : Draft) (at : Place) (v : Value) → Sound s draft → FitsIn s draft v → Good s draft (λ d k. IsApplied d k) (root_of at v draft)
+  good_root_of draft at (Term r sort) sound fits = good_no_variable draft at r sort sound fits.0 (get_or draft.rows r (Var 0)) (row_at draft r sort fits.0)
+  good_root_of draft at (Formula n None) sound fits = absurd (true≢false (sym fits.1 ∙ plain))
+  good_root_of draft at (Formula n (Some c)) sound fits = good_atom_row draft at n sound fits.0 (get_or draft.nodes n (And [])) (slice_get-get_or draft.nodes n (And []) (plain_stands fits.0))
+
+  abbrev Root : Draft → ℕ → Type 0
+  Root draft r = IsRoot s.functions s.variables draft.rows r
+
+  root_later : (old new : Draft) → Extends old new → (r : ℕ) → Root old r → Root new r
+  root_later old new extends r is = record {
+    symbol = is.symbol;
+    args = is.args;
+    stands = rows_keep old new extends r (App is.symbol is.args) is.stands;
+    sort = is.sort;
+    sorted = sort_later s old new extends is.sorted;
+    small = subst (λ n. n ≤ 256) (sym (size_later old.rows extends.more_rows new.rows r extends.rows (sort_stands is.sorted))) is.small;
+  }
+
+  good_small_root : (draft : Draft) (at : Place) (v : Value) → Sound s draft → FitsIn s draft v → Good s draft (λ d k. Root d k) (small_root at v draft)
+  good_small_root draft at v sound fits =
+      good_then s draft _ (good_root_of draft at v sound fits) λ r d1 k1 e1 is.
+      good_then s d1 _ (good_want s d1 (nat_le (size_of d1.rows r) 256) refusal.PatternTooLarge at k1) λ _ d2 k2 e2 small.
+      good_made s d2 r k2 (root_later d1 d2 e2 r (record { symbol = is.symbol; args = is.args; stands = is.stands; sort = is.sort; sorted = is.sorted; small = le_from (size_of d1.rows r) 256 small }))
