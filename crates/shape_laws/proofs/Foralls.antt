@@ -29,7 +29,7 @@ use Rattle.shape_patterns.specs.Patterns.{size_of, trigger_of, occurs}
 use Rattle.shape_patterns.specs.Roots.{positive_row, atom_row, no_variable, root_of, small_enough, small_root}
 use Rattle.shape_patterns.specs.Triggers.{each_occurs, trigger_made, rooted_trigger}
 use Rattle.smt_terms.specs.Meant.{Meaning, Meant, End, Token, Group, from, no_more, at_least, exactly, Listed, other_sort, some_bindings, no_binding, attributes_of}
-use Rattle.smt_terms.specs.Terms.{token_value, truth, variables_from, Attribute, attribute_if, is_pattern_key, patterns_in, Body, is_annotation, body_of, pattern_root, pattern_roots, pattern_list, trigger, triggers, some_trigger, inside_of, quantified, body_forall, bound_forall, checked_forall, forall_value}
+use Rattle.smt_terms.specs.Terms.{token_value, truth, variables_from, Attribute, attribute_if, is_pattern_key, patterns_in, Body, is_annotation, body_of, pattern_root, add_root, pattern_roots, pattern_list, trigger, triggers, some_trigger, inside_of, quantified, body_forall, bound_forall, checked_forall, forall_value}
 use Rattle.shape_laws.specs.Sorted.{HasSort, IsPlain, IsTruth, IsSorted}
 use Rattle.shape_laws.specs.Sound.{Fits, IsWhole, Stood, may_hold, IsScope}
 use Rattle.shape_laws.proofs.Growing.{Keeps, keeps_all, keeps_none, Extends, extends_itself, rows_keep, sort_kept, plain_kept, sort_stands, plain_stands, truth_kept}
@@ -183,6 +183,10 @@ atom_of n r at (IsPlain.one {parts = parts} stands x) = absurd (other_kind (same
     other_kind : ◌≡◌ {A = ShapeNode} (Atom true r) (Or parts) → ⊥
     other_kind same = true≢false (ap positive same)
 
+-- a root in a setting
+abbrev Root : Setting → Draft → ℕ → Type 0
+Root s draft r = IsRoot s.functions s.variables draft.rows r
+
 module _ (s : Setting) (others : All (λ sort. 1 ≤ sort) s.variables) (plain : s.universal ≡ false) where
   -- an application that has a sort
   record IsApplied (draft : Draft) (r : ℕ) : Type 0 where
@@ -220,10 +224,7 @@ module _ (s : Setting) (others : All (λ sort. 1 ≤ sort) s.variables) (plain :
   good_root_of draft at (Formula n None) sound fits = absurd (true≢false (sym fits.1 ∙ plain))
   good_root_of draft at (Formula n (Some c)) sound fits = good_atom_row draft at n sound fits.0 (get_or draft.nodes n (And [])) (slice_get-get_or draft.nodes n (And []) (plain_stands fits.0))
 
-  abbrev Root : Draft → ℕ → Type 0
-  Root draft r = IsRoot s.functions s.variables draft.rows r
-
-  root_later : (old new : Draft) → Extends old new → (r : ℕ) → Root old r → Root new r
+  root_later : (old new : Draft) → Extends old new → (r : ℕ) → Root s old r → Root s new r
   root_later old new extends r is = record {
     symbol = is.symbol;
     args = is.args;
@@ -233,8 +234,107 @@ module _ (s : Setting) (others : All (λ sort. 1 ≤ sort) s.variables) (plain :
     small = subst (λ n. n ≤ 256) (sym (size_later old.rows extends.more_rows new.rows r extends.rows (sort_stands is.sorted))) is.small;
   }
 
-  good_small_root : (draft : Draft) (at : Place) (v : Value) → Sound s draft → FitsIn s draft v → Good s draft (λ d k. Root d k) (small_root at v draft)
+  good_small_root : (draft : Draft) (at : Place) (v : Value) → Sound s draft → FitsIn s draft v → Good s draft (λ d k. Root s d k) (small_root at v draft)
   good_small_root draft at v sound fits =
       good_then s draft _ (good_root_of draft at v sound fits) λ r d1 k1 e1 is.
       good_then s d1 _ (good_want s d1 (nat_le (size_of d1.rows r) 256) refusal.PatternTooLarge at k1) λ _ d2 k2 e2 small.
       good_made s d2 r k2 (root_later d1 d2 e2 r (record { symbol = is.symbol; args = is.args; stands = is.stands; sort = is.sort; sorted = is.sorted; small = le_from (size_of d1.rows r) 256 small }))
+
+-- in a forall formulas hold none
+inside_holds_none : (a b : Bool) → a ≡ true → not (a || b) ≡ false
+inside_holds_none true b is = refl
+inside_holds_none false b is = absurd (true≢false (sym is))
+
+module _ (scope : Scope) (variables : List ℕ) (within : scope.in_forall ≡ true) where
+  abbrev s : Setting
+  s = setting scope variables
+
+  plain_here : s.universal ≡ false
+  plain_here = inside_holds_none scope.in_forall scope.in_definition within
+
+  -- roots, as many as trees
+  record Roots (trees : Meant) (draft : Draft) (roots : List ℕ) : Type 0 where
+    are : Each (Root s draft) roots
+    as_many : length roots ≡ count trees
+
+  good_add : (draft : Draft) (at : Place) (first : Making Value) (others : Making (List ℕ)) (trees : Meant) → Sound s draft → IsScope variables draft scope → Good s draft (λ d v. FitsIn s d v) (first draft)
+      → ((d : Draft) → Sound s d → Extends draft d → Good s d (λ e roots. Roots trees e roots) (others d))
+      → Good s draft (λ d roots. Each (Root s d) roots × (length roots ≡ suc (count trees))) (add_root (pattern_root at first) others draft)
+  good_add draft at first others trees sound is one rest =
+      good_then s draft _ (good_then s draft {Q = λ d r. Root s d r} _ one λ v d1 k1 e1 fits. good_small_root s is.others plain_here d1 at v k1 fits) λ r d2 k2 e2 root.
+      good_then s d2 _ (rest d2 k2 e2) λ roots d3 k3 e3 are.
+      good_made s d3 (r ∷ roots) k3 (more (root_later s is.others plain_here d2 d3 e3 r root) are.are, ap suc are.as_many)
+
+  good_roots : (draft : Draft) → Sound s draft → IsScope variables draft scope → (trees : Meant) → AllMean GoodMeaning trees → Good s draft (λ d roots. Roots trees d roots) (pattern_roots scope trees draft)
+  good_roots draft sound is End all = good_made s draft [] sound (record { are = none; as_many = refl })
+  good_roots draft sound is (Token word trees) (token rest) = good_as s draft (λ d roots e both. record { are = both.0; as_many = both.1 })
+      (good_add draft word.place (token_value scope word) (pattern_roots scope trees) trees sound is (good_token scope variables draft sound is word) (λ d keeps extends. good_roots d keeps (scope_later scope variables draft d extends is) trees rest))
+  good_roots draft sound is (Group paren meaning inner trees) (group means within rest) = good_as s draft (λ d roots e both. record { are = both.0; as_many = both.1 })
+      (good_add draft paren.place (meaning scope) (pattern_roots scope trees) trees sound is (means scope variables draft sound is) (λ d keeps extends. good_roots d keeps (scope_later scope variables draft d extends is) trees rest))
+
+  good_no_more : (draft : Draft) (refusal : Refusal) (trees : Meant) → Sound s draft → Good s draft (λ _ _. IsEnd trees) (no_more refusal trees draft)
+  good_no_more draft refusal End sound = good_made s draft (tt {0}) sound (tt {0})
+  good_no_more draft refusal (Token word trees) sound = refuses
+  good_no_more draft refusal (Group paren meaning inner trees) sound = refuses
+
+  good_some : (draft : Draft) (missing : Place) (trees : Meant) → Sound s draft → Good s draft (λ _ _. 1 ≤ count trees) (at_least 1 missing trees draft)
+  good_some draft missing End sound = refuses
+  good_some draft missing (Token word trees) sound = good_made s draft (tt {0}) sound (omega arith)
+  good_some draft missing (Group paren meaning inner trees) sound = good_made s draft (tt {0}) sound (omega arith)
+
+  good_each_occurs : (draft : Draft) (at : Place) (t : Trigger) (index : ℕ) (bound : List Bound) → Sound s draft → Good s draft (λ _ _. (k : ℕ) → k < length bound → occurs t (index + k) ≡ true) (each_occurs at t index bound draft)
+  good_each_occurs draft at t index [] sound = good_made s draft (tt {0}) sound (λ k below. absurd (omega (arith, below)))
+  good_each_occurs draft at t index (b ∷ bound) sound =
+      good_then s draft _ (good_want_named s draft (occurs t index) _ at b.name sound) λ _ d1 k1 e1 here.
+      good_as s d1 (λ d v e rest. each here rest) (good_each_occurs d1 at t (index + 1) bound k1)
+    where
+      each : occurs t index ≡ true → ((k : ℕ) → k < length bound → occurs t (index + 1 + k) ≡ true) → (k : ℕ) → k < suc (length bound) → occurs t (index + k) ≡ true
+      each here rest zero below = ap (λ n. occurs t n) same ∙ here
+        where
+          same : index + zero ≡ index
+          same = omega arith
+      each here rest (suc k) below = ap (λ n. occurs t n) same ∙ rest k (omega (arith, below))
+        where
+          same : index + suc k ≡ index + 1 + k
+          same = omega arith
+
+  module _ (valid : MakesValid) (bound : List Bound) (count_is : length variables ≡ length bound) (few : length bound ≤ 32) where
+    abbrev Fit : Trigger → Type 0
+    Fit t = FitsTrigger (length bound) t
+
+    good_rooted : (draft : Draft) (at : Place) (roots : List ℕ) → Sound s draft → Each (Root s draft) roots → 1 ≤ length roots → length roots ≤ 16 → Good s draft (λ _ t. Fit t) (rooted_trigger bound at roots draft)
+    good_rooted draft at roots sound are some most =
+        let t = trigger_of (length bound) draft.rows roots in
+        good_then s draft _ (good_each_occurs draft at t 0 bound sound) λ _ d1 k1 e1 occur.
+        good_made s d1 t k1 (record { valid = valid_here draft sound roots are some most occur; variables_are = refl })
+      where
+        valid_here : (draft : Draft) → Sound s draft → (roots : List ℕ) → Each (Root s draft) roots → 1 ≤ length roots → length roots ≤ 16
+            → ((k : ℕ) → k < length bound → occurs (trigger_of (length bound) draft.rows roots) (0 + k) ≡ true) → IsValid (trigger_of (length bound) draft.rows roots)
+        valid_here draft sound roots are some most occur =
+            subst (λ n. IsValid (trigger_of n draft.rows roots)) count_is
+            (valid s.functions variables draft sound.draft_is roots are some most (omega (arith, count_is, few))
+                (λ index below. ap (λ n. occurs (trigger_of n draft.rows roots) index) count_is ∙ ap (λ k. occurs (trigger_of (length bound) draft.rows roots) k) (no_less index) ∙ occur index (omega (arith, count_is, below))))
+          where
+            no_less : (k : ℕ) → k ≡ 0 + k
+            no_less k = omega arith
+
+    good_pattern_list : (draft : Draft) (key : Place) (trees : Meant) → Sound s draft → AllMean GoodMeaning trees → Good s draft (λ _ (listed : Listed). AllMean GoodMeaning listed.inner) (pattern_list key trees draft)
+    good_pattern_list draft key End sound all = refuses
+    good_pattern_list draft key (Token word trees) sound all = refuses
+    good_pattern_list draft key (Group paren meaning inner trees) sound (group is within rest) = good_made s draft (record { paren = paren; inner = inner }) sound within
+
+    good_trigger : (draft : Draft) → Sound s draft → IsScope variables draft scope → (attribute : Attribute) → AttributeMeans attribute → Good s draft (λ _ t. Fit t) (trigger scope bound attribute draft)
+    good_trigger draft sound is attribute means =
+        good_then s draft _ (good_pattern_list draft attribute.key.place attribute.behind sound means) λ listed d1 k1 e1 within.
+        good_then s d1 _ (good_some d1 listed.paren.place listed.inner k1) λ _ d2 k2 e2 some.
+        good_then s d2 _ (good_no_more d2 refusal.TooManyPatterns (from 16 listed.inner) k2) λ _ d3 k3 e3 most.
+        let is3 = scope_later scope variables d2 d3 e3 (scope_later scope variables d1 d2 e2 (scope_later scope variables draft d1 e1 is)) in
+        good_then s d3 _ (good_roots d3 k3 is3 listed.inner within) λ roots d4 k4 e4 are.
+        good_rooted d4 listed.paren.place roots k4 are.are (omega (arith, are.as_many, some)) (omega (arith, are.as_many, from_end 16 listed.inner most))
+
+    good_triggers : (draft : Draft) → Sound s draft → IsScope variables draft scope → (attributes : List Attribute) → Each AttributeMeans attributes → Good s draft (λ _ ts. All Fit ts) (triggers scope bound attributes draft)
+    good_triggers draft sound is [] none = good_made s draft [] sound (All-nil Fit)
+    good_triggers draft sound is (a ∷ attributes) (more means rest) =
+        good_then s draft _ (good_trigger draft sound is a means) λ first d1 k1 e1 fits.
+        good_then s d1 _ (good_triggers d1 k1 (scope_later scope variables draft d1 e1 is) attributes rest) λ others d2 k2 e2 fit.
+        good_made s d2 (first ∷ others) k2 (All-cons Fit first others fits fit)
