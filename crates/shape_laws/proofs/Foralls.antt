@@ -1,5 +1,5 @@
 -- What a forall makes, fits.
-use Rattle.std.proofs.Common.{◌≡◌, ℕ, zero, suc, ◌+◌, ◌<◌, ◌≤◌, Bool, true, false, cond, not, ◌&&◌, ◌||◌, ◌==◌, nat_le, List, [], ◌∷◌, ◌++◌, map, length, get_or, slice_get, Option, Some, None, All, refl, sym, ap, subst, ◌∙◌, append-nil, length-append, true≢false, arith}
+use Rattle.std.proofs.Common.{◌≡◌, ℕ, zero, suc, ◌+◌, ◌<◌, ◌≤◌, Bool, true, false, cond, not, ◌&&◌, ◌||◌, ◌==◌, nat_le, List, [], ◌∷◌, ◌++◌, map, length, get_or, slice_get, Option, Some, None, Result, Ok, Err, All, refl, sym, ap, subst, ◌∙◌, append-nil, length-append, true≢false, arith}
 use Rattle.std.proofs.lemmas.Option.{none-some, same_Some, slice_get_within, slice_get-get_or}
 use Rattle.std.proofs.lemmas.List.Elements.{All-nil, All-cons, All-append, All-weaker, All-map}
 use Rattle.term_table.specs.ListLaws.{slice_get-push, All-slice_get}
@@ -22,7 +22,7 @@ use Rattle.smt_names.specs.declared.stands.Stands.TheVariants.{Given, Variable}
 use Rattle.smt_names.specs.declared.syntax_fault.SyntaxFault.{SyntaxFault}
 use Rattle.smt_names.specs.declared.refusal.Refusal.{Refusal}
 use Rattle.smt_names.specs.declared.refusal.Refusal.TheVariants as refusal
-use Rattle.smt_names.specs.Value.{sort_of, self}
+use Rattle.smt_names.specs.Value.{sort_of, self, has_complement}
 use Rattle.smt_names.specs.Making.{Making, made, ◌>>◌, want, node, put_forall}
 use Rattle.smt_names.specs.Names.{State, Scope, Declared}
 use Rattle.shape_patterns.specs.Patterns.{size_of, trigger_of, occurs}
@@ -32,9 +32,9 @@ use Rattle.smt_terms.specs.Meant.{Meaning, Meant, End, Token, Group, from, no_mo
 use Rattle.smt_terms.specs.Terms.{token_value, truth, variables_from, Attribute, attribute_if, is_pattern_key, patterns_in, Body, is_annotation, body_of, pattern_root, add_root, pattern_roots, pattern_list, trigger, triggers, some_trigger, inside_of, quantified, body_forall, bound_forall, checked_forall, forall_value}
 use Rattle.shape_laws.specs.Sorted.{HasSort, IsPlain, IsTruth, IsSorted}
 use Rattle.shape_laws.specs.Sound.{Fits, IsWhole, Stood, may_hold, IsScope}
-use Rattle.shape_laws.proofs.Growing.{Keeps, keeps_all, keeps_none, Extends, extends_itself, rows_keep, sort_kept, plain_kept, sort_stands, plain_stands, truth_kept}
-use Rattle.shape_laws.proofs.Making.{Setting, Sort, Plain, Sound, Good, makes, refuses, plain_later, sort_later, good_then, good_made, good_want, good_as, good_node}
-use Rattle.shape_laws.proofs.Values.{FitsIn, formula_of, Each, none, more, each_map, each_append}
+use Rattle.shape_laws.proofs.Growing.{Keeps, keeps_all, keeps_none, Extends, extends_itself, rows_keep, foralls_keep, sort_kept, plain_kept, sort_stands, plain_stands, truth_kept}
+use Rattle.shape_laws.proofs.Making.{Setting, Sort, Plain, Truth, Sound, Good, makes, refuses, plain_later, sort_later, good_then, good_made, good_want, good_as, good_node}
+use Rattle.shape_laws.proofs.Values.{FitsIn, IsFormula, formula_of, Each, none, more, each_map, each_append}
 use Rattle.shape_laws.proofs.Moving.{variable_of}
 use Rattle.shape_laws.proofs.Applying.{good_want_named, le_from}
 use Rattle.shape_laws.proofs.Reaching.{reached_sorted, reaches_no_forall}
@@ -338,3 +338,131 @@ module _ (scope : Scope) (variables : List ℕ) (within : scope.in_forall ≡ tr
         good_then s draft _ (good_trigger draft sound is a means) λ first d1 k1 e1 fits.
         good_then s d1 _ (good_triggers d1 k1 (scope_later scope variables draft d1 e1 is) attributes rest) λ others d2 k2 e2 fit.
         good_made s d2 (first ∷ others) k2 (All-cons Fit first others fits fit)
+
+-- what was made in one setting was made in another, where no definition is under way
+sound_other : (s t : Setting) (draft : Draft) → t.whole ≡ false → Sound s draft → Sound t draft
+sound_other from_it to_it draft partly sound = record { draft_is = sound.draft_is; whole = λ w. absurd (true≢false (sym w ∙ partly)) }
+
+good_other : {A : Type 0} (s t : Setting) (old : Draft) {P : Draft → A → Type 0} {r : Result (A × Draft) SyntaxFault} → t.whole ≡ false → Good s old P r → Good t old P r
+good_other from_it to_it old partly (makes {new = new} sound extends fits) = makes (sound_other from_it to_it new partly sound) extends fits
+good_other from_it to_it old partly refuses = refuses
+
+-- a value that was made where there are no variables stands where there are some
+module _ (functions : List Declared) (variables : List ℕ) (universal : Bool) (draft : Draft) where
+  fits_inside : (v : Value) → Fits functions [] universal draft v → Fits functions variables universal draft v
+  fits_inside (Term row sort) fits = (sort_kept functions functions (keeps_all functions) draft.rows draft.rows (keeps_all draft.rows) [] variables (keeps_none variables) fits.0, fits.1)
+  fits_inside (Formula n None) fits =
+      (truth_kept functions functions (keeps_all functions) draft.rows draft.rows (keeps_all draft.rows) draft.nodes draft.nodes (keeps_all draft.nodes) draft.foralls draft.foralls (keeps_all draft.foralls) [] variables (keeps_none variables) fits.0, fits.1)
+  fits_inside (Formula n (Some c)) fits =
+      (plain_kept functions functions (keeps_all functions) draft.rows draft.rows (keeps_all draft.rows) draft.nodes draft.nodes (keeps_all draft.nodes) [] variables (keeps_none variables) fits.0,
+      plain_kept functions functions (keeps_all functions) draft.rows draft.rows (keeps_all draft.rows) draft.nodes draft.nodes (keeps_all draft.nodes) [] variables (keeps_none variables) fits.1)
+
+  stood_inside : (stands : Stands) → Stood functions [] universal draft stands → Stood functions variables universal draft stands
+  stood_inside (Given v) fits = fits_inside v fits
+  stood_inside (Variable index sort) at = absurd (none-some sort at)
+
+no_definition_here : (a b : Bool) → not (a || b) ≡ true → b ≡ false
+no_definition_here true b may = absurd (true≢false (sym may))
+no_definition_here false true may = absurd (true≢false (sym may))
+no_definition_here false false may = refl
+
+module _ (valid : MakesValid) (scope : Scope) (may : may_hold scope ≡ true) where
+  abbrev outer : Setting
+  outer = setting scope []
+
+  whole_is : scope.in_definition ≡ false
+  whole_is = no_definition_here scope.in_forall scope.in_definition may
+
+  module _ (bound : List Bound) (are : AreVariables 0 bound) (few : length bound ≤ 32) where
+    abbrev within : Scope
+    within = inside_of scope bound
+
+    abbrev inner : Setting
+    inner = setting within (sorts_of bound)
+
+    inside_is : (draft : Draft) → IsScope [] draft scope → IsScope (sorts_of bound) draft within
+    inside_is draft is =
+        let P : Bound → Type 0 = λ (b : Bound). Stood scope.state.functions (sorts_of bound) (not scope.in_definition) draft b.stands in
+        record {
+          declared = is.declared;
+          others = others_of are;
+          outside = λ held. absurd (true≢false (sym held));
+          bound = All-append P scope.bound bound
+              (All-weaker (λ (b : Bound). Stood scope.state.functions [] (not scope.in_definition) draft b.stands) P (λ b. stood_inside scope.state.functions (sorts_of bound) (not scope.in_definition) draft b.stands) scope.bound is.bound)
+              (stand_of scope.state.functions (not scope.in_definition) draft [] refl are);
+        }
+
+    -- the body holds no forall
+    body_plain : (draft : Draft) (v : Value) → FitsIn inner draft v × (sort_of v ≡ 0) → Plain inner draft (self v)
+    body_plain draft v fits = let is = formula_of inner draft v fits.1 fits.0 in by is (has_complement v) refl
+      where
+        by : IsFormula inner draft v → (b : Bool) → has_complement v ≡ b → Plain inner draft (self v)
+        by is true has = (is.with has).itself
+        by is false hasnt = absurd (true≢false (sym (is.without hasnt)))
+
+    forall_fits : (draft : Draft) (body : ℕ) (patterns : List Trigger) → Plain inner draft body → All (λ t. FitsTrigger (length bound) t) patterns → FitsForall draft.rows draft.nodes (shape_forall (length bound) body patterns)
+    forall_fits draft body patterns plain fit = record {
+      few_variables = few;
+      body_stands = plain_stands plain;
+      no_forall = reaches_no_forall scope.state.functions (sorts_of bound) draft.rows draft.nodes body plain;
+      below = λ row index reach at.
+          let had = reached_sorted scope.state.functions (sorts_of bound) draft.rows draft.nodes body plain reach in
+          let stands = slice_get_within (sorts_of bound) index had.0 (variable_of row index had.0 at had.1) in
+          omega (arith, stands, count_of bound);
+      triggers_fit = fit;
+    }
+
+    -- a forall is put
+    Put : Draft → ℕ → ShapeForall → Type 0
+    Put draft index new = slice_get draft.foralls index ≡ Some new
+
+    good_put : (draft : Draft) (new : ShapeForall) → Sound outer draft → FitsForall draft.rows draft.nodes new → Good outer draft (λ d index. Put d index new) (put_forall new draft)
+    unfolding Put
+    good_put draft new sound fits = makes
+        (record { draft_is = IsDraft-with_forall draft sound.draft_is new fits; whole = λ w. absurd (true≢false (sym w ∙ whole_is)) })
+        (record { more_rows = []; rows = sym (append-nil draft.rows); more_nodes = []; nodes = sym (append-nil draft.nodes); more_foralls = new ∷ []; foralls = refl })
+        (slice_get-push draft.foralls new)
+
+    good_forall_node : (paren : Place) (draft : Draft) (index : ℕ) (new : ShapeForall) → Sound outer draft → Put draft index new → length (sorts_of bound) ≡ new.variables → Plain inner draft new.body → Good outer draft (λ d n. Truth outer d n) (node paren (Forall index) draft)
+    unfolding Put
+    good_forall_node paren draft index new sound at same plain = good_node outer paren draft sound (Forall index) (λ d n. Truth outer d n)
+        (record { rows_stand = All-nil (λ row. row < length draft.rows); parts_stand = All-nil (λ n. n < length draft.nodes); foralls_stand = All-cons (λ n. n < length draft.foralls) index [] (slice_get_within draft.foralls index new at) (All-nil (λ n. n < length draft.foralls)) })
+        (λ later n extends stands. (IsTruth.universal stands (foralls_keep draft later extends index new at) (record { sorts = sorts_of bound; count = same; body = plain_later inner draft later extends plain }), λ w. absurd (true≢false (sym w ∙ whole_is))))
+
+    good_quantified : (paren head : Place) (draft : Draft) (body : Body) → Sound outer draft → IsScope [] draft scope → BodyMeans body → Good outer draft (λ d v. FitsIn outer d v) (quantified paren head scope bound body draft)
+    good_quantified paren head draft body sound is means =
+        good_then outer draft _ (good_other inner outer draft whole_is (good_formula within (sorts_of bound) draft (sound_other outer inner draft whole_is sound) (inside_is draft is) head body.tree means.tree_means)) λ v d1 k1 e1 fits.
+        let plain1 = body_plain d1 v fits in
+        let is1 = scope_later scope [] draft d1 e1 is in
+        good_then outer d1 _ (good_other inner outer d1 whole_is (good_triggers within (sorts_of bound) refl valid bound (count_of bound) few d1 (sound_other outer inner d1 whole_is k1) (inside_is d1 is1) body.patterns means.patterns_are)) λ patterns d2 k2 e2 fit.
+        let plain2 = plain_later inner d1 d2 e2 plain1 in
+        good_then outer d2 _ (good_want outer d2 (some_trigger patterns) refusal.NotInProfile head k2) λ _ d3 k3 e3 _.
+        let plain3 = plain_later inner d2 d3 e3 plain2 in
+        good_then outer d3 _ (good_put d3 (shape_forall (length bound) (self v) patterns) k3 (forall_fits d3 (self v) patterns plain3 fit)) λ index d4 k4 e4 at.
+        let plain4 = plain_later inner d3 d4 e4 plain3 in
+        good_then outer d4 _ (good_forall_node paren d4 index (shape_forall (length bound) (self v) patterns) k4 at (count_of bound) plain4) λ n d5 k5 e5 truth_is.
+        good_made outer d5 (Formula n None) k5 (truth_is, may)
+
+    good_body_forall : (paren head : Place) (draft : Draft) (trees : Meant) → Sound outer draft → IsScope [] draft scope → AllMean GoodMeaning trees → Good outer draft (λ d v. FitsIn outer d v) (body_forall paren head scope bound trees draft)
+    good_body_forall paren head draft trees sound is all =
+        good_then outer draft _ (good_body outer draft [] trees sound none all) λ body d1 k1 e1 means.
+        good_quantified paren head d1 body k1 (scope_later scope [] draft d1 e1 is) means
+
+  good_bound_forall : (paren head : Place) (draft : Draft) (bindings trees : Meant) → Sound outer draft → IsScope [] draft scope → AllMean GoodMeaning trees → Good outer draft (λ d v. FitsIn outer d v) (bound_forall paren head scope bindings trees draft)
+  good_bound_forall paren head draft bindings trees sound is all =
+      good_then outer draft _ (good_no_binding outer draft refusal.TooManyVariables (from 32 bindings) sound) λ _ d1 k1 e1 isnt.
+      good_then outer d1 _ (good_variables outer d1 scope.state 0 bindings k1) λ bound d2 k2 e2 variables.
+      good_body_forall bound variables.are (variables.few 32 isnt) paren head d2 trees k2 (scope_later scope [] d1 d2 e2 (scope_later scope [] draft d1 e1 is)) all
+
+  good_checked_forall : (paren head : Place) (parts : Meant) (draft : Draft) → Sound outer draft → IsScope [] draft scope → AllMean GoodMeaning parts → Good outer draft (λ d v. FitsIn outer d v) (checked_forall paren head parts scope draft)
+  good_checked_forall paren head parts draft sound is all =
+      good_then outer draft _ (passes_exactly outer draft 2 head parts sound) λ _ d1 k1 e1 _.
+      good_then outer d1 _ (good_some_bindings outer GoodMeaning d1 head parts all k1) λ listed d2 k2 e2 _.
+      good_bound_forall paren head d2 listed.inner (from 1 parts) k2 (scope_later scope [] d1 d2 e2 (scope_later scope [] draft d1 e1 is)) (from_mean 1 all)
+
+-- a forall
+pub good_forall : MakesValid → (paren head : Place) (parts : Meant) → AllMean GoodMeaning parts → GoodMeaning (forall_value paren head parts)
+good_forall valid paren head parts all scope variables draft sound is =
+    good_then (setting scope variables) draft _ (good_want (setting scope variables) draft (may_hold scope) refusal.NotInProfile head sound) λ _ d1 k1 e1 may.
+    subst (λ vs. Sound (setting scope vs) d1 → IsScope vs d1 scope → Good (setting scope vs) d1 (λ d v. FitsIn (setting scope vs) d v) (checked_forall paren head parts scope d1)) (sym (is.outside may))
+        (λ sound1 is1. good_checked_forall valid scope may paren head parts d1 sound1 is1 all) k1 (scope_later scope variables draft d1 e1 is)
