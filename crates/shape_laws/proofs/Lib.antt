@@ -9,5 +9,6 @@ pub mod Checks
 pub mod Scopes
 pub mod Rooted
 pub mod Marks
+pub mod Keeping
 pub mod Foralls
 pub mod Terms
