@@ -10,5 +10,6 @@ pub mod Scopes
 pub mod Rooted
 pub mod Marks
 pub mod Keeping
+pub mod Valid
 pub mod Foralls
 pub mod Terms
