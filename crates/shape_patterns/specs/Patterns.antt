@@ -1,5 +1,5 @@
 -- The rows of a trigger, and how large a pattern is.
-use Rattle.std.specs.Prelude.{ℕ, zero, suc, Bool, true, false, ◌==◌, List, [], ◌∷◌, ◌++◌, map, length, get_or, slice_set, replicate, sum_by}
+use Rattle.std.specs.Prelude.{ℕ, zero, suc, Bool, true, false, cond, nat_le, ◌==◌, List, [], ◌∷◌, ◌++◌, map, length, get_or, slice_set, replicate, sum_by}
 use Rattle.std.specs.List.{list_any}
 use Rattle.formula_shape.specs.declared.shape_row.ShapeRow.{ShapeRow}
 use Rattle.formula_shape.specs.declared.shape_row.ShapeRow.TheVariants.{Var, App}
@@ -7,6 +7,7 @@ use Rattle.formula_shape.specs.ShapeRow.{args_of}
 use Rattle.term_table.specs.declared.pattern_row.PatternRow.{PatternRow}
 use Rattle.term_table.specs.declared.pattern_row.PatternRow.TheVariants as pattern
 use Rattle.term_table.specs.declared.trigger.Trigger.{Trigger}
+use Rattle.shape_patterns.specs.declared.keeping.Keeping.{Keeping}
 
 -- how many symbols and variables each row has as a tree, after the sizes of those before it
 abbrev pub sizes_after : List ℕ → List ShapeRow → List ℕ
@@ -15,6 +16,10 @@ sizes_after sizes (next ∷ rows) = sizes_after (sizes ++ suc (sum_by (λ arg. g
 
 abbrev pub size_of : List ShapeRow → ℕ → ℕ
 size_of rows row = get_or (sizes_after [] rows) row 0
+
+-- a size up to 256, and 257 for each greater one
+abbrev pub capped : ℕ → ℕ
+capped n = cond (nat_le n 256) n 257
 
 -- with these places marked
 abbrev pub marked : List ℕ → List Bool → List Bool
@@ -57,6 +62,10 @@ kept_if false kept row = record kept { numbers = kept.numbers ++ 0 ∷ [] }
 abbrev pub kept_after : List Bool → Kept → List ShapeRow → Kept
 kept_after marks kept [] = kept
 kept_after marks kept (row ∷ rows) = kept_after marks (kept_if (get_or marks (length kept.numbers) false) kept row) rows
+
+-- what is kept so far
+abbrev pub kept_so : Keeping → Kept
+kept_so keeping = record { numbers = keeping.numbers.items; rows = keeping.rows }
 
 abbrev pub kept_of : List ShapeRow → List ℕ → Kept
 kept_of rows roots = kept_after (reached_from rows roots) (record { numbers = []; rows = [] }) rows
