@@ -13,3 +13,4 @@ pub mod Keeping
 pub mod Valid
 pub mod Foralls
 pub mod Terms
+pub mod Formulas
