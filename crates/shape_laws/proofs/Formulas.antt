@@ -14,7 +14,7 @@ use Rattle.smt_names.specs.declared.value.Value.{Value}
 use Rattle.smt_names.specs.declared.value.Value.TheVariants.{Term, Formula}
 use Rattle.smt_names.specs.declared.bound.Bound.{Bound}
 use Rattle.smt_names.specs.Value.{sort_of, self}
-use Rattle.smt_names.specs.Names.{State, Scope, Defined}
+use Rattle.smt_names.specs.Names.{State, Scope, Declared, Defined}
 use Rattle.smt_terms.specs.Terms.{value, meant, variables_from}
 use Rattle.shape_laws.specs.Sorted.{HasSort, IsPlain, IsTruth}
 use Rattle.shape_laws.specs.Sound.{Fits, IsWhole, IsDefinition, inside, Stood, IsScope, IsState}
@@ -107,7 +107,7 @@ pub makes_definitions : MakesDefinitions
 makes_definitions state bindings trees parameters missing name terms nodes sort v between draft is bound_so made_so =
     let start = setting (outside state) [] in
     let old = empty_draft terms nodes in
-    let variables_are = (done_of start old (λ _ bound. Variables 0 (meant bindings) bound) parameters between (subst (Good start old (λ _ bound. Variables 0 (meant bindings) bound)) bound_so (good_variables start old state 0 (meant bindings) (empty_sound terms nodes start)))).fits.are in
+    let variables_are = (done_of start old (λ _ bound. Variables start 0 (meant bindings) bound) parameters between (subst (Good start old (λ _ bound. Variables start 0 (meant bindings) bound)) bound_so (good_variables start old state 0 (meant bindings) (empty_sound terms nodes start)))).fits.are in
     let scope = inside_definition state parameters in
     let variables = sorts_of parameters in
     let s = setting scope variables in
