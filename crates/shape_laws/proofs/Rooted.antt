@@ -1,13 +1,10 @@
 -- Roots of triggers, and what a valid trigger is made of.
-use Rattle.std.proofs.Common.{◌≡◌, ℕ, zero, suc, ◌+◌, ◌<◌, ◌≤◌, Bool, true, false, List, [], ◌∷◌, ◌++◌, map, length, get_or, slice_get, sum_by, Option, Some, None, All, refl, sym, ap, subst, ◌∙◌, length-append, append_assoc, append-nil, arith}
-use Rattle.std.proofs.lemmas.Option.{none-some, same_Some, slice_get_within}
-use Rattle.term_table.specs.ListLaws.{slice_get-append_left}
-use Rattle.term_table.specs.declared.trigger.Trigger.{Trigger}
+use Rattle.std.proofs.Common.{◌≡◌, ℕ, zero, suc, ◌+◌, ◌<◌, ◌≤◌, true, List, [], ◌∷◌, ◌++◌, length, get_or, slice_get, sum_by, Some, refl, sym, ap, ◌∙◌, length-append, append_assoc, append-nil, arith}
 use Rattle.term_table.specs.Trigger.{IsValid}
 use Rattle.formula_shape.specs.declared.shape_row.ShapeRow.{ShapeRow}
-use Rattle.formula_shape.specs.declared.shape_row.ShapeRow.TheVariants.{Var, App}
+use Rattle.formula_shape.specs.declared.shape_row.ShapeRow.TheVariants.{App}
 use Rattle.formula_shape.specs.ShapeRow.{args_of}
-use Rattle.formula_shape.specs.Draft.{Draft, IsDraft, FitsRow}
+use Rattle.formula_shape.specs.Draft.{Draft, IsDraft}
 use Rattle.smt_names.specs.Names.{Declared}
 use Rattle.shape_patterns.specs.Patterns.{sizes_after, size_of, trigger_of, occurs}
 use Rattle.shape_laws.specs.Sorted.{HasSort}

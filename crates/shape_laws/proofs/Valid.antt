@@ -1,6 +1,5 @@
 -- Triggers of roots are valid.
-use Rattle.std.proofs.Common.{◌≡◌, ℕ, zero, suc, ◌+◌, ◌<◌, ◌≤◌, ◌⊎◌, ⊎_elim, inl, inr, Bool, true, false, ◌==◌, List, [], ◌∷◌, ◌++◌, map, length, get_or, slice_get, sum_by, Option, Some, None, option_map, All, Contains, refl, sym, ap, ap₂, subst, ◌∙◌, true≢false, append-nil, append_assoc, length-append, arith}
-use Rattle.std.specs.List.{list_any, Any}
+use Rattle.std.proofs.Common.{◌≡◌, ℕ, zero, suc, ◌+◌, ◌<◌, ◌≤◌, ◌⊎◌, ⊎_elim, inl, inr, Bool, true, false, List, [], ◌∷◌, ◌++◌, length, get_or, slice_get, sum_by, Some, option_map, All, refl, sym, ap, ap₂, subst, ◌∙◌, true≢false, length-append, arith}
 use Rattle.std.proofs.lemmas.Option.{none-some, same_Some, slice_get_within, slice_get-map, slice_get-get_or}
 use Rattle.std.proofs.lemmas.List.{length-map}
 use Rattle.std.proofs.lemmas.List.Sums.{sum_by-cons}
@@ -21,7 +20,7 @@ use Rattle.shape_patterns.specs.Patterns.{sizes_after, size_of, reached_from, Ke
 use Rattle.shape_laws.specs.Sorted.{HasSort, HaveSorts}
 use Rattle.shape_laws.proofs.Growing.{sort_stands}
 use Rattle.shape_laws.proofs.Values.{Each, none, more}
-use Rattle.shape_laws.proofs.Moving.{behind_front, variable_of, applied_of, sorts_at}
+use Rattle.shape_laws.proofs.Moving.{variable_of, applied_of}
 use Rattle.shape_laws.proofs.Applying.{eq_from}
 use Rattle.shape_laws.proofs.Rooted.{size_by, sizes_apart, sizes_length, sizes_keep, get_front, size_later, IsRoot, MakesValid}
 use Rattle.shape_laws.proofs.Marks.{Marked, From, root, part, roots_marked, args_marked, marked_reached}
@@ -155,8 +154,14 @@ module _ (functions : List Declared) (variables : List ℕ) (draft : Draft) (dra
   origin_of p x stands =
       let o = so.origin p (slice_get_within kept.rows p x stands) in
       let row = element_at rows o.0 o.1 in
-      record { i = o.0; row = row.0; at = row.1; has = o.2; number_is = o.3;
-          same = same_Some (renumbered numbers row.0) x (sym (so.placed o.0 row.0 o.1 row.1 o.2) ∙ ap (slice_get kept.rows) o.3 ∙ stands) }
+      record {
+        i = o.0;
+        row = row.0;
+        at = row.1;
+        has = o.2;
+        number_is = o.3;
+        same = same_Some (renumbered numbers row.0) x (sym (so.placed o.0 row.0 o.1 row.1 o.2) ∙ ap (slice_get kept.rows) o.3 ∙ stands);
+      }
 
   placed : (i : ℕ) (row : ShapeRow) → slice_get rows i ≡ Some row → Marked marks i → slice_get kept.rows (number i) ≡ Some (renumbered numbers row)
   placed i row at has = so.placed i row (slice_get_within rows i row at) at has
@@ -181,7 +186,7 @@ module _ (functions : List Declared) (variables : List ℕ) (draft : Draft) (dra
   row_once i j (App f xs) other at_i at_j has_i has_j same =
       let o = app_from numbers other f (numbered numbers xs) (sym same) in
       ap (App f) (numbered_once xs o.0 (λ k x arg. args_marked rows fit roots i (App f xs) at_i has_i k x arg)
-          (λ k y arg. args_marked rows fit roots j (App f o.0) (at_j ∙ ap Some o.1) has_j k y arg) (sym o.2)) ∙ sym o.1
+      (λ k y arg. args_marked rows fit roots j (App f o.0) (at_j ∙ ap Some o.1) has_j k y arg) (sym o.2)) ∙ sym o.1
 
   -- paths lead to all rows
   occurs_at : {i : ℕ} → From rows roots i → (start : ℕ) × (path : List ℕ) × Occurs t start path (number i)
@@ -231,9 +236,9 @@ module _ (functions : List Declared) (variables : List ℕ) (draft : Draft) (dra
         let o = origin_of p (pattern.App symbol parts) at in
         let app = app_from numbers o.row symbol parts o.same in
         subst (All (λ q. q < p)) app.2 (All-map (λ q. q < p) number app.0 (all_from (λ a. number a < p) app.0 (λ k a arg.
-            let here = o.at ∙ ap Some app.1 in
-            let less = All-slice_get (λ x. x < o.i) app.0 k a (fit o.i (App symbol app.0) here).args arg in
-            omega (arith, so.rising a o.i less (marked_within o.i o.has) (args_marked rows fit roots o.i (App symbol app.0) here o.has k a arg) o.has, o.number_is))));
+        let here = o.at ∙ ap Some app.1 in
+        let less = All-slice_get (λ x. x < o.i) app.0 k a (fit o.i (App symbol app.0) here).args arg in
+        omega (arith, so.rising a o.i less (marked_within o.i o.has) (args_marked rows fit roots o.i (App symbol app.0) here o.has k a arg) o.has, o.number_is))));
     few_parts = λ p symbol parts at.
         let o = origin_of p (pattern.App symbol parts) at in
         let app = app_from numbers o.row symbol parts o.same in
