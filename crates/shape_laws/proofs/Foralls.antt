@@ -29,7 +29,7 @@ use Rattle.shape_patterns.specs.Roots.{positive_row, atom_row, no_variable, root
 use Rattle.shape_patterns.specs.Triggers.{each_occurs, rooted_trigger}
 use Rattle.smt_terms.specs.Meant.{Meant, End, Token, Group, from, no_more, at_least, Listed, no_binding, attributes_of}
 use Rattle.smt_terms.specs.Terms.{token_value, variables_from, Attribute, attribute_if, is_pattern_key, patterns_in, Body, is_annotation, body_of, pattern_root, add_root, pattern_roots, pattern_list, trigger, triggers, some_trigger, inside_of, quantified, body_forall, bound_forall, checked_forall, forall_value}
-use Rattle.shape_laws.specs.Sorted.{HasSort, IsPlain, IsTruth}
+use Rattle.shape_laws.specs.Sorted.{HasSort, IsPlain, IsTruth, IsSortedTrigger}
 use Rattle.shape_laws.specs.Sound.{Fits, Stood, may_hold, IsScope}
 use Rattle.shape_laws.specs.Laws.{sorts_of}
 use Rattle.shape_laws.proofs.Growing.{keeps_all, keeps_none, Extends, rows_keep, foralls_keep, sort_kept, plain_kept, sort_stands, plain_stands, truth_kept}
@@ -292,18 +292,20 @@ module _ (scope : Scope) (variables : List ℕ) (within : scope.in_forall ≡ tr
 
   module _ (valid : MakesValid) (bound : List Bound) (count_is : length variables ≡ length bound) (few : length bound ≤ 32) where
     abbrev Fit : Trigger → Type 0
-    Fit t = FitsTrigger (length bound) t
+    Fit t = FitsTrigger (length bound) t × IsSortedTrigger s.functions variables t
 
     good_rooted : (draft : Draft) (at : Place) (roots : List ℕ) → Sound s draft → Each (Root s draft) roots → 1 ≤ length roots → length roots ≤ 16 → Good s draft (λ _ t. Fit t) (rooted_trigger bound at roots draft)
     good_rooted draft at roots sound are some most =
         let t = trigger_of (length bound) draft.rows roots in
         good_then s draft _ (good_each_occurs draft at t 0 bound sound) λ _ d1 k1 e1 occur.
-        good_made s d1 t k1 (record { valid = valid_here draft sound roots are some most occur; variables_are = refl })
+        let is = valid_here draft sound roots are some most occur in
+        good_made s d1 t k1 (record { valid = is.0; variables_are = refl }, is.1)
       where
         valid_here : (draft : Draft) → Sound s draft → (roots : List ℕ) → Each (Root s draft) roots → 1 ≤ length roots → length roots ≤ 16
-            → ((k : ℕ) → k < length bound → occurs (trigger_of (length bound) draft.rows roots) (0 + k) ≡ true) → IsValid (trigger_of (length bound) draft.rows roots)
+            → ((k : ℕ) → k < length bound → occurs (trigger_of (length bound) draft.rows roots) (0 + k) ≡ true)
+            → IsValid (trigger_of (length bound) draft.rows roots) × IsSortedTrigger s.functions variables (trigger_of (length bound) draft.rows roots)
         valid_here draft sound roots are some most occur =
-            subst (λ n. IsValid (trigger_of n draft.rows roots)) count_is
+            subst (λ n. IsValid (trigger_of n draft.rows roots) × IsSortedTrigger s.functions variables (trigger_of n draft.rows roots)) count_is
             (valid s.functions variables draft sound.draft_is roots are some most (omega (arith, count_is, few))
             (λ index below. ap (λ n. occurs (trigger_of n draft.rows roots) index) count_is ∙ ap (λ k. occurs (trigger_of (length bound) draft.rows roots) k) (no_less index) ∙ occur index (omega (arith, count_is, below))))
           where
@@ -393,7 +395,11 @@ module _ (valid : MakesValid) (scope : Scope) (may : may_hold scope ≡ true) wh
         by is true has = (is.with has).itself
         by is false hasnt = absurd (true≢false (sym (is.without hasnt)))
 
-    forall_fits : (draft : Draft) (body : ℕ) (patterns : List Trigger) → Plain inner draft body → All (λ t. FitsTrigger (length bound) t) patterns → FitsForall draft.rows draft.nodes (shape_forall (length bound) body patterns)
+    -- the trigger fits the variables, and its rows have sorts by them
+    abbrev FitsInside : Trigger → Type 0
+    FitsInside t = FitsTrigger (length bound) t × IsSortedTrigger scope.state.functions (sorts_of bound) t
+
+    forall_fits : (draft : Draft) (body : ℕ) (patterns : List Trigger) → Plain inner draft body → All FitsInside patterns → FitsForall draft.rows draft.nodes (shape_forall (length bound) body patterns)
     forall_fits draft body patterns plain fit = record {
       few_variables = few;
       body_stands = plain_stands plain;
@@ -402,7 +408,7 @@ module _ (valid : MakesValid) (scope : Scope) (may : may_hold scope ≡ true) wh
           let had = reached_sorted scope.state.functions (sorts_of bound) draft.rows draft.nodes body plain reach in
           let stands = slice_get_within (sorts_of bound) index had.0 (variable_of row index had.0 at had.1) in
           omega (arith, stands, count_of bound);
-      triggers_fit = fit;
+      triggers_fit = All-weaker FitsInside (λ (t : Trigger). FitsTrigger (length bound) t) (λ t both. both.0) patterns fit;
     }
 
     -- a forall is put
@@ -416,11 +422,12 @@ module _ (valid : MakesValid) (scope : Scope) (may : may_hold scope ≡ true) wh
         (record { more_rows = []; rows = sym (append-nil draft.rows); more_nodes = []; nodes = sym (append-nil draft.nodes); more_foralls = new ∷ []; foralls = refl })
         (slice_get-push draft.foralls new)
 
-    good_forall_node : (paren : Place) (draft : Draft) (index : ℕ) (new : ShapeForall) → Sound outer draft → Put draft index new → length (sorts_of bound) ≡ new.variables → Plain inner draft new.body → Good outer draft (λ d n. Truth outer d n) (node paren (Forall index) draft)
+    good_forall_node : (paren : Place) (draft : Draft) (index : ℕ) (new : ShapeForall) → Sound outer draft → Put draft index new → length (sorts_of bound) ≡ new.variables → Plain inner draft new.body → All (IsSortedTrigger scope.state.functions (sorts_of bound)) new.triggers
+        → Good outer draft (λ d n. Truth outer d n) (node paren (Forall index) draft)
     unfolding Put
-    good_forall_node paren draft index new sound at same plain = good_node outer paren draft sound (Forall index) (λ d n. Truth outer d n)
+    good_forall_node paren draft index new sound at same plain sorted = good_node outer paren draft sound (Forall index) (λ d n. Truth outer d n)
         (record { rows_stand = All-nil (λ row. row < length draft.rows); parts_stand = All-nil (λ n. n < length draft.nodes); foralls_stand = All-cons (λ n. n < length draft.foralls) index [] (slice_get_within draft.foralls index new at) (All-nil (λ n. n < length draft.foralls)) })
-        (λ later n extends stands. (IsTruth.universal stands (foralls_keep draft later extends index new at) (record { sorts = sorts_of bound; count = same; body = plain_later inner draft later extends plain }), λ w. absurd (true≢false (sym w ∙ whole_is))))
+        (λ later n extends stands. (IsTruth.universal stands (foralls_keep draft later extends index new at) (record { sorts = sorts_of bound; count = same; body = plain_later inner draft later extends plain; triggers = sorted }), λ w. absurd (true≢false (sym w ∙ whole_is))))
 
     good_quantified : (paren head : Place) (draft : Draft) (body : Body) → Sound outer draft → IsScope [] draft scope → BodyMeans body → Good outer draft (λ d v. FitsIn outer d v) (quantified paren head scope bound body draft)
     good_quantified paren head draft body sound is means =
@@ -433,7 +440,7 @@ module _ (valid : MakesValid) (scope : Scope) (may : may_hold scope ≡ true) wh
         let plain3 = plain_later inner d2 d3 e3 plain2 in
         good_then outer d3 _ (good_put d3 (shape_forall (length bound) (self v) patterns) k3 (forall_fits d3 (self v) patterns plain3 fit)) λ index d4 k4 e4 at.
         let plain4 = plain_later inner d3 d4 e4 plain3 in
-        good_then outer d4 _ (good_forall_node paren d4 index (shape_forall (length bound) (self v) patterns) k4 at (count_of bound) plain4) λ n d5 k5 e5 truth_is.
+        good_then outer d4 _ (good_forall_node paren d4 index (shape_forall (length bound) (self v) patterns) k4 at (count_of bound) plain4 (All-weaker FitsInside (IsSortedTrigger scope.state.functions (sorts_of bound)) (λ t both. both.1) patterns fit)) λ n d5 k5 e5 truth_is.
         good_made outer d5 (Formula n None) k5 (truth_is, may)
 
     good_body_forall : (paren head : Place) (draft : Draft) (trees : Meant) → Sound outer draft → IsScope [] draft scope → AllMean GoodMeaning trees → Good outer draft (λ d v. FitsIn outer d v) (body_forall paren head scope bound trees draft)

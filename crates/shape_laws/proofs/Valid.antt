@@ -1,5 +1,5 @@
 -- Triggers of roots are valid.
-use Rattle.std.proofs.Common.{◌≡◌, ℕ, zero, suc, ◌+◌, ◌<◌, ◌≤◌, ◌⊎◌, ⊎_elim, inl, inr, Bool, true, false, List, [], ◌∷◌, ◌++◌, length, get_or, slice_get, sum_by, Some, option_map, All, refl, sym, ap, ap₂, subst, ◌∙◌, true≢false, length-append, arith}
+use Rattle.std.proofs.Common.{◌≡◌, ℕ, zero, suc, ◌+◌, ◌<◌, ◌≤◌, ◌⊎◌, ⊎_elim, inl, inr, Bool, true, false, List, [], ◌∷◌, ◌++◌, map, length, get_or, slice_get, sum_by, Some, option_map, All, refl, sym, ap, ap₂, subst, ◌∙◌, true≢false, length-append, arith}
 use Rattle.std.proofs.lemmas.Option.{none-some, same_Some, slice_get_within, slice_get-map, slice_get-get_or}
 use Rattle.std.proofs.lemmas.List.{length-map}
 use Rattle.std.proofs.lemmas.List.Sums.{sum_by-cons}
@@ -17,7 +17,8 @@ use Rattle.formula_shape.specs.ShapeRow.{args_of}
 use Rattle.formula_shape.specs.Draft.{Draft, IsDraft, FitsRow}
 use Rattle.smt_names.specs.Names.{Declared}
 use Rattle.shape_patterns.specs.Patterns.{sizes_after, size_of, reached_from, Kept, numbered, renumbered, kept_after, trigger_of, is_variable, occurs}
-use Rattle.shape_laws.specs.Sorted.{HasSort, HaveSorts}
+use Rattle.shape_laws.specs.Sorted.{HasSort, HaveSorts, as_row, IsSortedTrigger}
+use Rattle.shape_laws.specs.Sorted.HasSort.{variable, application}
 use Rattle.shape_laws.proofs.Growing.{sort_stands}
 use Rattle.shape_laws.proofs.Values.{Each, none, more}
 use Rattle.shape_laws.proofs.Moving.{variable_of, applied_of}
@@ -271,6 +272,24 @@ module _ (functions : List Declared) (variables : List ℕ) (draft : Draft) (dra
     occur = λ index within. variable_stands index (occur index within);
   }
 
--- triggers of roots are valid
+  mutual
+    -- a row of the trigger has the sort of the row that it comes from
+    number_sorted : {i sort : ℕ} → HasSort functions variables rows i sort → Marked marks i → HasSort functions variables (map as_row kept.rows) (number i) sort
+    number_sorted (variable {row = i} {index = index} at is) has = variable (slice_get-map as_row kept.rows (number i) ∙ ap (option_map as_row) (placed i (Var index) at has)) is
+    number_sorted (application place {row = i} {args = args} at is sorted) has =
+        application place (slice_get-map as_row kept.rows (number i) ∙ ap (option_map as_row) (placed i (App (place + 2) args) at has)) is
+        (numbers_sorted sorted (λ k x arg. args_marked rows fit roots i (App (place + 2) args) at has k x arg))
+
+    numbers_sorted : {args sorts : List ℕ} → HaveSorts functions variables rows args sorts → ((k x : ℕ) → slice_get args k ≡ Some x → Marked marks x) → HaveSorts functions variables (map as_row kept.rows) (numbered numbers args) sorts
+    numbers_sorted HaveSorts.none marked = HaveSorts.none
+    numbers_sorted (HaveSorts.more {row = a} first rest) marked = HaveSorts.more (number_sorted first (marked 0 a refl)) (numbers_sorted rest (λ k. marked (suc k)))
+
+  sorted_of : IsSortedTrigger functions variables t
+  sorted_of p within =
+      let o = so.origin p within in
+      let had = reached_has (marked_reached rows fit roots o.0 o.2) in
+      (had.0, subst (λ q. HasSort functions variables (map as_row kept.rows) q had.0) o.3 (number_sorted had.1 o.2))
+
+-- triggers of roots are valid, and their rows have sorts
 pub makes_valid : MakesValid
-makes_valid functions variables draft draft_is roots are some most few occur = valid_of functions variables draft draft_is roots are some most few occur
+makes_valid functions variables draft draft_is roots are some most few occur = (valid_of functions variables draft draft_is roots are some most few occur, sorted_of functions variables draft draft_is roots are)
