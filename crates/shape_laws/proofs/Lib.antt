@@ -14,3 +14,4 @@ pub mod Valid
 pub mod Foralls
 pub mod Terms
 pub mod Formulas
+pub mod Examples
