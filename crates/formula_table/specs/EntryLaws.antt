@@ -1,5 +1,5 @@
 -- A formula is entered in one way.
-use Rattle.std.proofs.Common.{◌≡◌, ℕ, ◌+◌, ◌<◌, ◌⊎◌, ◌↔◌, min, max, List, [], ◌∷◌, ◌++◌, length, map, get_or, slice_get, Some, Contains, refl, sym, ap, ap₂, subst, ◌∙◌, arith}
+use Rattle.std.proofs.Common.{◌≡◌, ℕ, ◌<◌, ◌↔◌, min, max, List, [], ◌∷◌, ◌++◌, length, map, slice_get, Some, Contains, refl, sym, ap, ap₂, subst, ◌∙◌, arith}
 use Rattle.std.specs.Prelude.{slice_index}
 use Rattle.std.proofs.lemmas.List.{same_lists}
 use Rattle.std.proofs.lemmas.List.Elements.{All-contains, Contains-get_or, Contains-append_right}
@@ -9,23 +9,23 @@ use Rattle.term_table.specs.Questions.{AreAll}
 use Rattle.term_table.specs.Terms.{term_row, IsTable}
 use Rattle.term_table.specs.ListLaws.{element_at, place_from_Contains, Contains-slice_get}
 use Rattle.term_table.specs.OneListLaws.{one_list}
-use Rattle.formula_shape.specs.declared.shape_row.ShapeRow.{ShapeRow}
-use Rattle.formula_shape.specs.declared.shape_row.ShapeRow.TheVariants.{Var, App}
+use Rattle.formula_shape.specs.declared.shape_row.ShapeRow.TheVariants.{App}
 use Rattle.formula_shape.specs.declared.shape_node.ShapeNode.{ShapeNode}
 use Rattle.formula_shape.specs.declared.shape_node.ShapeNode.TheVariants.{Equal, Atom, And, Or, Forall}
-use Rattle.formula_shape.specs.ShapeNode.{foralls_of, parts_of}
+use Rattle.formula_shape.specs.ShapeNode.{parts_of}
 use Rattle.formula_shape.specs.Reach.{ReachesNode, ReachesRow}
 use Rattle.formula_shape.specs.Reach.ReachesNode.{itself, part_of_it}
 use Rattle.formula_shape.specs.Reach.ReachesRow.{named, argument}
-use Rattle.formula_shape.specs.ReachLaws.{row_stands, node_stands}
+use Rattle.formula_shape.specs.ReachLaws.{row_stands}
 use Rattle.formula_shape.specs.Draft.{Formula, IsFormula}
 use Rattle.formula_table.specs.declared.node.Node.{Node}
 use Rattle.formula_table.specs.declared.node.Node.TheVariants as entered
 use Rattle.formula_table.specs.declared.table_forall.TableForall.{TableForall}
 use Rattle.formula_table.specs.Formulas.{Formulas, IsFormulaTable}
 use Rattle.formula_table.specs.InOrder.{AreInOrder}
+use Rattle.formula_table.specs.BecomesLaws.{row_becomes, node_becomes, forall_stands}
 use Rattle.formula_table.specs.InOrderLaws.{one_in_order, full_stops}
-use Rattle.formula_table.specs.Entry.{BecomesRow, BecomesNode, EntersRows, EntersNodes, ReachesForall, RowsGrow, ForallsGrow, NodesGrow, FillsTerms, FillsNodes, Enters, LacksNodes, entered_row, entered_node}
+use Rattle.formula_table.specs.Entry.{BecomesRow, BecomesNode, ReachesForall, RowsGrow, ForallsGrow, NodesGrow, FillsTerms, FillsNodes, Enters, LacksNodes, entered_row, entered_node}
 
 -- functions that agree on the elements make one list
 map_same : (f g : ℕ → ℕ) (xs : List ℕ) → ((x : ℕ) → Contains xs x → f x ≡ g x) → map f xs ≡ map g xs
@@ -33,26 +33,6 @@ map_same f g [] same = refl
 map_same f g (x ∷ xs) same = ap₂ (λ (y : ℕ) (ys : List ℕ). y ∷ ys) (same x (Contains-get_or (x ∷ xs) 0 x (omega arith))) (map_same f g xs (λ y c. same y (Contains-append_right (x ∷ []) xs y c)))
 
 module _ (formula : Formula) (is : IsFormula formula) where
-  -- a reached row becomes a row of a table
-  pub row_becomes : (terms : List ℕ) (n : ℕ) → ReachesRow formula.rows formula.nodes formula.root n → (x : TermRow) × BecomesRow formula terms n x
-  row_becomes terms n reach =
-      let at = element_at formula.rows n (row_stands formula.rows formula.nodes formula.foralls is.lawful formula.root is.root_stands reach) in
-      by at.0 at.1
-    where
-      by : (row : ShapeRow) → slice_get formula.rows n ≡ Some row → (x : TermRow) × BecomesRow formula terms n x
-      by (Var index) at = absurd (is.closed n index reach at)
-      by (App symbol args) at = (entered_row terms symbol args, record { symbol = symbol; args = args; reached = reach; stands = at; row_is = refl })
-
-  -- a reached node becomes a node of the table
-  pub node_becomes : (terms foralls numbers : List ℕ) (n : ℕ) → ReachesNode formula.nodes formula.root n → (x : Node) × BecomesNode formula terms foralls numbers n x
-  node_becomes terms foralls numbers n reach =
-      let at = element_at formula.nodes n (node_stands formula.rows formula.nodes formula.foralls is.lawful formula.root is.root_stands reach) in
-      (entered_node terms foralls numbers at.0, record { shape_node = at.0; reached = reach; stands = at.1; node_is = refl })
-
-  -- a reached forall stands
-  pub forall_stands : (index : ℕ) → ReachesForall formula index → index < length formula.foralls
-  forall_stands index reach = All-contains (λ n. n < length formula.foralls) (index ∷ []) index (is.lawful.nodes_fit reach.node (Forall index) reach.stands).foralls_stand (0, omega arith, refl)
-
   -- a row becomes the same over terms that agree on the earlier rows
   row_step : (terms others : List ℕ) (n : ℕ) → ((m : ℕ) (x : TermRow) → m < n → BecomesRow formula terms m x → slice_index terms m ≡ slice_index others m) → (x : TermRow) → BecomesRow formula terms n x ↔ BecomesRow formula others n x
   row_step terms others n agree x = (
@@ -63,7 +43,7 @@ module _ (formula : Formula) (is : IsFormula formula) where
       equal : (symbol : ℕ) (args : List ℕ) → ReachesRow formula.rows formula.nodes formula.root n → slice_get formula.rows n ≡ Some (App symbol args) → entered_row terms symbol args ≡ entered_row others symbol args
       equal symbol args reach at = ap (term_row symbol) (map_same (slice_index terms) (slice_index others) args (λ arg c.
           let lower : arg < n = All-contains (λ a. a < n) args arg (is.lawful.rows_fit n (App symbol args) at).args c in
-          let becomes = row_becomes terms arg (argument reach at c) in
+          let becomes = row_becomes formula is terms arg (argument reach at c) in
           agree arg becomes.0 lower becomes.1))
 
   module _ (rows : List TermRow) (table : IsTable rows) (limit : ℕ) where
@@ -72,10 +52,12 @@ module _ (formula : Formula) (is : IsFormula formula) where
     one_rows G H terms others one other =
         let first = subst (λ n. AreInOrder (BecomesRow formula terms) rows limit n one.added terms) one.all one.enters in
         let second = subst (λ n. AreInOrder (BecomesRow formula others) rows limit n other.added others) other.all other.enters in
-        let same = one_in_order (BecomesRow formula terms) (BecomesRow formula others) rows limit terms others table.once (row_step terms others) (length formula.rows) one.added other.added first second in
-        (same.0, λ n reach.
-        let becomes = row_becomes terms n reach in
-        same.1 n becomes.0 (row_stands formula.rows formula.nodes formula.foralls is.lawful formula.root is.root_stands reach) becomes.1)
+        let same = one_in_order (BecomesRow formula terms) (BecomesRow formula others) rows limit terms others table.once (row_step terms others) (length formula.rows) one.added other.added first second in (
+          same.0,
+          λ n reach.
+              let becomes = row_becomes formula is terms n reach in
+              same.1 n becomes.0 (row_stands formula.rows formula.nodes formula.foralls is.lawful formula.root is.root_stands reach) becomes.1,
+        )
 
     -- where there is no room for a term, not all rows are entered
     pub full_terms_not_grown : (G H : List TermRow → Type 0) (terms : List ℕ) → FillsTerms G formula rows limit → RowsGrow H formula rows limit terms → ⊥
@@ -108,7 +90,7 @@ module _ (formula : Formula) (is : IsFormula formula) where
           let same = both_say k thing.0 thing.1 (omega (arith, reached.0, one.all)) in
           get_or_from_slice_get added k item.0 d item.1 ∙ sym (get_or_from_slice_get more k item.0 d (sym same.1 ∙ item.1))),
       λ index reach.
-          let stands = forall_stands index reach in
+          let stands = forall_stands formula is index reach in
           let place = place_from_Contains one.enters.reached index ((one.enters.all.exact index).1 (omega (arith, stands, one.all), reach)) in
           (both_say place.0 index place.1 stands).0,
     )
@@ -134,7 +116,7 @@ module _ (formula : Formula) (is : IsFormula formula) where
         equal : (node : ShapeNode) → ReachesNode formula.nodes formula.root n → slice_get formula.nodes n ≡ Some node → entered_node terms foralls numbers node ≡ entered_node other_terms other_foralls others node
         equal node reach at = entered_same numbers others n node reach at (λ part c.
             let lower : part < n = All-contains (λ p. p < n) (parts_of node) part (is.lawful.nodes_fit n node at).parts_stand c in
-            let becomes = node_becomes terms foralls numbers part (part_of_it reach at c) in
+            let becomes = node_becomes formula is terms foralls numbers part (part_of_it reach at c) in
             agree part becomes.0 lower becomes.1)
 
     module _ (old : Formulas) (table : IsFormulaTable old) where
@@ -146,7 +128,7 @@ module _ (formula : Formula) (is : IsFormula formula) where
           let first = subst (λ n. AreInOrder P old.nodes old.limit n added one.numbers) one.all one.enters in
           let second = subst (λ n. AreInOrder Q old.nodes old.limit n more other.numbers) other.all other.enters in
           let same = one_in_order P Q old.nodes old.limit one.numbers other.numbers table.once (node_step one.numbers other.numbers) (length formula.nodes) added more first second in
-          let becomes = node_becomes terms foralls one.numbers formula.root itself in
+          let becomes = node_becomes formula is terms foralls one.numbers formula.root itself in
           (same.0, sym (get_or_from_slice_get one.numbers formula.root number 0 one.root) ∙ same.1 formula.root becomes.0 is.root_stands becomes.1 ∙ get_or_from_slice_get other.numbers formula.root other_number 0 other.root)
 
       -- where there is no room for a node, not all nodes are entered
