@@ -1,6 +1,7 @@
 -- A formula is entered in one way.
-use Rattle.std.proofs.Common.{◌≡◌, ℕ, ◌<◌, ◌↔◌, min, max, List, [], ◌∷◌, ◌++◌, length, map, slice_get, Some, Contains, refl, sym, ap, ap₂, subst, ◌∙◌, arith}
+use Rattle.std.proofs.Common.{◌≡◌, ◌≢◌, ℕ, ◌<◌, ◌↔◌, min, max, List, [], ◌∷◌, ◌++◌, length, map, slice_get, Some, Contains, refl, sym, ap, ap₂, subst, ◌∙◌, ⊎_elim, arith}
 use Rattle.std.specs.Prelude.{slice_index}
+use Rattle.std.proofs.lemmas.Bool.{cases_lt}
 use Rattle.std.proofs.lemmas.List.{same_lists}
 use Rattle.std.proofs.lemmas.List.Elements.{All-contains, Contains-get_or, Contains-append_right}
 use Rattle.std.proofs.lemmas.Option.{slice_get_within, get_or_from_slice_get}
@@ -21,11 +22,13 @@ use Rattle.formula_shape.specs.Draft.{Formula, IsFormula}
 use Rattle.formula_table.specs.declared.node.Node.{Node}
 use Rattle.formula_table.specs.declared.node.Node.TheVariants as entered
 use Rattle.formula_table.specs.declared.table_forall.TableForall.{TableForall}
+use Rattle.formula_table.specs.declared.enter_fault.EnterFault.{EnterFault}
+use Rattle.formula_table.specs.declared.enter_fault.EnterFault.TheVariants.{TermsFull, NodesFull, Memory}
 use Rattle.formula_table.specs.Formulas.{Formulas, IsFormulaTable}
 use Rattle.formula_table.specs.InOrder.{AreInOrder}
 use Rattle.formula_table.specs.BecomesLaws.{row_becomes, node_becomes, forall_stands}
 use Rattle.formula_table.specs.InOrderLaws.{one_in_order, full_stops}
-use Rattle.formula_table.specs.Entry.{BecomesRow, BecomesNode, ReachesForall, RowsGrow, ForallsGrow, NodesGrow, FillsTerms, FillsNodes, Enters, LacksNodes, entered_row, entered_node}
+use Rattle.formula_table.specs.Entry.{BecomesRow, BecomesNode, ReachesForall, RowsGrow, ForallsGrow, NodesGrow, FillsTerms, FillsNodes, Enters, LacksNodes, StopsEntry, entered_row, entered_node}
 
 -- functions that agree on the elements make one list
 map_same : (f g : ℕ → ℕ) (xs : List ℕ) → ((x : ℕ) → Contains xs x → f x ≡ g x) → map f xs ≡ map g xs
@@ -64,6 +67,19 @@ module _ (formula : Formula) (is : IsFormula formula) where
     full_terms_not_grown G H terms fills grows =
         let within = slice_get_within formula.rows (length fills.terms) (App fills.full.1.symbol fills.full.1.args) fills.full.1.stands in
         full_stops (BecomesRow formula fills.terms) (BecomesRow formula terms) rows limit fills.terms terms table.once (row_step fills.terms terms) (length fills.terms) (length terms) fills.added grows.added fills.enters fills.full (omega (arith, within, grows.all)) grows.enters
+
+    -- and it stops behind the same terms
+    pub full_terms_added : (G H : List TermRow → Type 0) (one : FillsTerms G formula rows limit) (other : FillsTerms H formula rows limit) → one.added ≡ other.added
+    full_terms_added G H one other = ⊎_elim
+        (λ less. absurd (full_stops (BecomesRow formula one.terms) (BecomesRow formula other.terms) rows limit one.terms other.terms table.once (row_step one.terms other.terms) (length one.terms) (length other.terms) one.added other.added one.enters one.full less other.enters))
+        (λ not_less. ⊎_elim
+        (λ more. absurd (full_stops (BecomesRow formula other.terms) (BecomesRow formula one.terms) rows limit other.terms one.terms table.once (row_step other.terms one.terms) (length other.terms) (length one.terms) other.added one.added other.enters other.full more one.enters))
+        (λ not_more.
+        let counts : length other.terms ≡ length one.terms = omega (arith, not_less, not_more) in
+        let second = subst (λ n. AreInOrder (BecomesRow formula other.terms) rows limit n other.added other.terms) counts other.enters in
+        (one_in_order (BecomesRow formula one.terms) (BecomesRow formula other.terms) rows limit one.terms other.terms table.once (row_step one.terms other.terms) (length one.terms) one.added other.added one.enters second).0)
+        (cases_lt (length other.terms) (length one.terms)))
+        (cases_lt (length one.terms) (length other.terms))
 
   -- all foralls are entered in one way
   module _ (old added more : List TableForall) (numbers others : List ℕ) (one : ForallsGrow formula old added numbers) (other : ForallsGrow formula old more others) where
@@ -137,6 +153,12 @@ module _ (formula : Formula) (is : IsFormula formula) where
           let within = slice_get_within formula.nodes (length fills.numbers) fills.full.1.shape_node fills.full.1.stands in
           full_stops (BecomesNode formula terms foralls fills.numbers) (BecomesNode formula other_terms other_foralls grows.numbers) old.nodes old.limit fills.numbers grows.numbers table.once (node_step fills.numbers grows.numbers) (length fills.numbers) (length grows.numbers) fills.added more fills.enters fills.full (omega (arith, within, grows.all)) grows.enters
 
+-- the same terms were added in both ways
+pub record OneGrowth (G H : List TermRow → Type 0) : Type 0 where
+  pub added : List TermRow
+  pub grew : G added
+  pub also : H added
+
 -- the same terms were added in both ways, and the same table and number came of it
 pub record OneEntry (G H : List TermRow → Type 0) (new other : Formulas) (number other_number : ℕ) : Type 0 where
   pub added : List TermRow
@@ -181,3 +203,36 @@ module _ (G H : List TermRow → Type 0) (formula : Formula) (is : IsFormula for
       let two = enters.table_grows in
       let foralls = one_foralls formula is old.foralls one.foralls two.foralls one.forall_numbers two.forall_numbers one.foralls_grow two.foralls_grow in
       full_nodes_not_grown formula is lacks.terms enters.terms one.forall_numbers two.forall_numbers terms.1 foralls.1 old is_table two.nodes number one.fills two.nodes_grow
+
+  -- where there is no room for the terms, the same ones were added
+  pub full_terms_once : FillsTerms G formula rows limit → FillsTerms H formula rows limit → OneGrowth G H
+  full_terms_once one other = record { added = one.added; grew = one.grew; also = subst H (sym (full_terms_added formula is rows table limit G H one other)) other.grew }
+
+  -- and so where there is no room for the nodes
+  pub lacking_nodes_once : LacksNodes G formula rows limit old → LacksNodes H formula rows limit old → OneGrowth G H
+  lacking_nodes_once one other =
+      let terms = one_rows formula is rows table limit G H one.terms other.terms one.rows_grow other.rows_grow in
+      record { added = one.rows_grow.added; grew = one.rows_grow.grew; also = subst H (sym terms.0) other.rows_grow.grew }
+
+-- but for want of memory, a formula that is entered is not refused
+pub stopped_not_entered : (G H refused : List TermRow → Type 0) (formula : Formula) → IsFormula formula → (rows : List TermRow) → IsTable rows → (limit : ℕ) (old : Formulas) → IsFormulaTable old → (new : Formulas) (number : ℕ) (fault : EnterFault) → (fault ≢ Memory) → StopsEntry G refused formula rows limit old fault → Enters H formula rows limit old new number → ⊥
+stopped_not_entered G H refused formula is rows table limit old is_table new number TermsFull not stops enters = full_terms_not_entered G H formula is rows table limit old is_table new number stops enters
+stopped_not_entered G H refused formula is rows table limit old is_table new number NodesFull not stops enters = lacking_nodes_not_entered G H formula is rows table limit old is_table new number stops enters
+stopped_not_entered G H refused formula is rows table limit old is_table new number Memory not stops enters = not refl
+
+-- but for want of memory, a formula is refused in one way
+pub stops_once : (G H refused others : List TermRow → Type 0) (formula : Formula) → IsFormula formula → (rows : List TermRow) → IsTable rows → (limit : ℕ) (old : Formulas) → IsFormulaTable old → (fault other : EnterFault) → (fault ≢ Memory) → (other ≢ Memory) → StopsEntry G refused formula rows limit old fault → StopsEntry H others formula rows limit old other → (fault ≡ other) × OneGrowth G H
+stops_once G H refused others formula is rows table limit old is_table TermsFull TermsFull not also one two = (refl, full_terms_once G H formula is rows table limit old is_table one two)
+stops_once G H refused others formula is rows table limit old is_table TermsFull NodesFull not also one two = absurd (full_terms_not_lacking G H formula is rows table limit old is_table one two)
+stops_once G H refused others formula is rows table limit old is_table NodesFull TermsFull not also one two = absurd (full_terms_not_lacking H G formula is rows table limit old is_table two one)
+stops_once G H refused others formula is rows table limit old is_table NodesFull NodesFull not also one two = (refl, lacking_nodes_once G H formula is rows table limit old is_table one two)
+stops_once G H refused others formula is rows table limit old is_table TermsFull Memory not also one two = absurd (also refl)
+stops_once G H refused others formula is rows table limit old is_table NodesFull Memory not also one two = absurd (also refl)
+stops_once G H refused others formula is rows table limit old is_table Memory other not also one two = absurd (not refl)
+
+-- where what grows is told by the rows that were added, the same comes of both ways
+pub enters_once-into : {State : Type 0} (grow : List TermRow → State) (later also : State) (formula : Formula) → IsFormula formula → (rows : List TermRow) → IsTable rows → (limit : ℕ) (old : Formulas) → IsFormulaTable old → (new other : Formulas) (number other_number : ℕ)
+    → Enters (λ more. later ≡ grow more) formula rows limit old new number → Enters (λ more. also ≡ grow more) formula rows limit old other other_number → (later ≡ also) × (new ≡ other) × (number ≡ other_number)
+enters_once-into grow later also formula is rows table limit old is_table new other number other_number first second =
+    let one = enters_once (λ more. later ≡ grow more) (λ more. also ≡ grow more) formula is rows table limit old is_table new other number other_number first second in
+    (one.grew ∙ sym one.also, one.table_is, one.number_is)
