@@ -1,8 +1,8 @@
 -- Things become items, one after another, in one way.
-use Rattle.std.proofs.Common.{◌≡◌, ℕ, zero, suc, ◌+◌, ◌-◌, ◌<◌, ◌≤◌, ◌⊎◌, ◌↔◌, List, [], ◌∷◌, ◌++◌, length, get_or, slice_get, Some, refl, sym, ap, subst, ◌∙◌, inl, inr, ⊎_elim, append-nil, append_assoc, arith}
+use Rattle.std.proofs.Common.{◌≡◌, ℕ, zero, suc, ◌+◌, ◌-◌, ◌<◌, ◌≤◌, ◌⊎◌, ◌↔◌, List, [], ◌∷◌, ◌++◌, length, get_or, slice_get, Some, refl, sym, ap, subst, ◌∙◌, inl, inr, ⊎_elim, append_assoc, arith}
 use Rattle.std.specs.Prelude.{slice_index}
 use Rattle.std.proofs.lemmas.Bool.{cases_lt}
-use Rattle.std.proofs.lemmas.List.{length-append, get_or_append_left, get_or_at}
+use Rattle.std.proofs.lemmas.List.{length-append, get_or_append_left}
 use Rattle.std.proofs.lemmas.Option.{none-some, same_Some, slice_get_within, get_or_from_slice_get}
 use Rattle.term_table.specs.ListLaws.{slice_get-append_left, slice_get-push, push_cases, element_at}
 use Rattle.formula_shape.specs.ReachLaws.{back}
@@ -27,7 +27,7 @@ module _ {X : Type 0} where
 
   module _ (Becomes : ℕ → X → Type 0) (items : List X) (limit : ℕ) (numbers : List ℕ) where
     -- before the first thing nothing was added
-    none_added : (added : List X) → AreInOrder Becomes items limit 0 added numbers → added ≡ []
+    pub none_added : (added : List X) → AreInOrder Becomes items limit 0 added numbers → added ≡ []
     none_added added is = ⊎_elim (λ none. none)
         (λ more.
         let item : slice_get added (length more.0) ≡ Some more.1 = ap (λ xs. slice_get xs (length more.0)) more.2 ∙ slice_get-push more.0 more.1 in
@@ -188,10 +188,13 @@ module _ {X : Type 0} (P Q : ℕ → X → Type 0) (items : List X) (limit : ℕ
 
   module _ (n : ℕ) (xs ys : List X) (is : AreInOrder P items limit (suc n) xs numbers) (or : AreInOrder Q items limit (suc n) ys others) where
     both_kept : AreInOrder P items limit n xs numbers → (xs ≡ ys) × Agree n → (xs ≡ ys) × Agree (suc n)
-    both_kept kept same = (same.0, next_agree n same.1 (λ x becomes.
-        let one = is.stand n x (omega arith) becomes in
-        let other = or.stand n x (omega arith) ((step n same.1 x).0 becomes) in
-        stand_once P items limit numbers once n xs kept (slice_index numbers n) (slice_index others n) x one (ap (λ zs. slice_get (items ++ zs) (slice_index others n)) same.0 ∙ other)))
+    both_kept kept same = (
+      same.0,
+      next_agree n same.1 (λ x becomes.
+          let one = is.stand n x (omega arith) becomes in
+          let other = or.stand n x (omega arith) ((step n same.1 x).0 becomes) in
+          stand_once P items limit numbers once n xs kept (slice_index numbers n) (slice_index others n) x one (ap (λ zs. slice_get (items ++ zs) (slice_index others n)) same.0 ∙ other)),
+    )
 
     both_put : (one : PutLast P items limit n xs numbers) (other : PutLast Q items limit n ys others) → (one.front ≡ other.front) × Agree n → (xs ≡ ys) × Agree (suc n)
     both_put one other same =
