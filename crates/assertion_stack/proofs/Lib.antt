@@ -1,0 +1,6 @@
+pub mod Growth
+pub mod OnceLemmas
+pub mod WorkLemmas
+pub mod EnteredTerms
+pub mod EntryLemmas
+pub mod StackLemmas

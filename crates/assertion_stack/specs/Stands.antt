@@ -21,9 +21,9 @@ abbrev pub NodesStand : ℕ → List Node → Type 0
 NodesStand terms nodes = (n : ℕ) (node : Node) → slice_get nodes n ≡ Some node → All (λ term. term < terms) (terms_in node)
 
 -- a table of formulas over so many terms
-pub record IsTableOver (terms : ℕ) (formulas : Formulas) : Type 0 where
+pub record IsTableOver (count : ℕ) (formulas : Formulas) : Type 0 where
   pub table : IsFormulaTable formulas
-  pub terms : NodesStand terms formulas.nodes
+  pub terms : NodesStand count formulas.nodes
 
 -- for each level of the graph formulas were saved, and they are over the terms that stood when it was opened
 abbrev pub AreSaved : List Done → List Saved → Type 0

@@ -1,6 +1,6 @@
 //! Asserts a node of the table of formulas, with the parts of conjunctions.
-ghost use Rattle.std.specs.Prelude.{◌≡◌, ℕ, ◌<◌, ◌++◌, ◌∷◌, [], length, map, reverse, slice_get, Some, All, OnOk, OnErr};
-ghost use Rattle.term_table.specs.declared.op.Op.TheVariants.{Live as LiveOp};
+ghost use Rattle.std.specs.Prelude.{◌≡◌, ℕ, ◌<◌, ◌++◌, ◌∷◌, [], length, map, reverse, slice_get, Some, All, OnOk, if◌then◌else◌};
+ghost use Rattle.term_table.specs.declared.op.Op.TheVariants.{Merge as MergeOp, Differ as DifferOp, Live as LiveOp};
 ghost use Rattle.term_table.specs.Trigger.{IsValid};
 ghost use Rattle.term_table.specs.State.{replay};
 ghost use Rattle.term_table.specs.Standing.{terms_of};
@@ -58,13 +58,24 @@ fn make_live(alloc: Global, terms: &mut GraphTerms, triggers: &Triggers) -> Resu
     Ok(())
 }
 
-/// The equation of two terms, or, where not positive, their disequation.
-fn equation(positive: bool, left: u32, right: u32) -> Op {
+/// The operation of an equation, or, where not positive, of a disequation.
+fn equation(positive: bool, left: u32, right: u32) -> Op
+    ensures { result ≡ (if positive then MergeOp left right else DifferOp left right) }
+{
     if positive {
         Op::Merge { left, right }
     } else {
         Op::Differ { left, right }
     }
+}
+
+/// The operation of an atom, or, where not positive, of a negated one.
+fn truth(positive: bool, term: u32) -> Op
+    ensures { result ≡ MergeOp term (if positive then 0 else 1) }
+{
+    let left = term;
+    let right = if positive { TRUE_TERM } else { FALSE_TERM };
+    Op::Merge { left, right }
 }
 
 /// Does the operations that a node stands for by itself.
@@ -86,11 +97,7 @@ fn do_operations(
             left,
             right,
         } => terms.apply(&equation(*positive, *left, *right)),
-        Node::Atom { positive, term } => {
-            let left = *term;
-            let right = if *positive { TRUE_TERM } else { FALSE_TERM };
-            terms.apply(&Op::Merge { left, right })
-        }
+        Node::Atom { positive, term } => terms.apply(&truth(*positive, *term)),
         Node::And { .. } | Node::Or { .. } => Ok(()),
         Node::Forall { forall } => make_live(alloc, terms, formulas.triggers_of(*forall)),
     }
