@@ -91,6 +91,9 @@ module _ (standing : List Done) (serial : ℕ) where
 pub levels_of-opened : (standing : List Done) (serial : ℕ) → levels_of (then_op standing serial Push) ≡ levels_of standing + 1
 levels_of-opened standing serial = levels_of-push standing (record { serial = serial; op = Push })
 
+pub opened_longer : (standing : List Done) (serial : ℕ) → length (terms_of standing) ≤ length (terms_of (then_op standing serial Push))
+opened_longer standing serial = longer standing serial Push
+
 -- what stood before it stands when it ends
 pub before_last-opened : (standing : List Done) (serial : ℕ) → before_last is_push (then_op standing serial Push) ≡ standing
 before_last-opened standing serial = before_last-hit is_push standing (record { serial = serial; op = Push }) refl

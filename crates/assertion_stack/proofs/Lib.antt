@@ -1,6 +1,7 @@
 pub mod Growth
 pub mod OnceLemmas
 pub mod WorkLemmas
+pub mod OperationLemmas
 pub mod EnteredTerms
 pub mod EntryLemmas
 pub mod StackLemmas

@@ -3,10 +3,12 @@ use Rattle.std.proofs.Common.{◌≡◌, ℕ, zero, suc, ◌+◌, ◌-◌, ◌<�
 use Rattle.std.specs.List.{list_any}
 use Rattle.std.proofs.lemmas.List.{reverse-append, reverse-reverse, length-append, length-reverse, get_or-reverse, get_or_append_left}
 use Rattle.std.proofs.lemmas.List.Elements.{All-nil, All-cons, All-head, All-tail, All-append, All-weaker, All-contains, Contains-append_right}
+use Rattle.std.proofs.lemmas.Bool.Decides.{nat_tests}
 use Rattle.std.proofs.lemmas.Cmp.{nat_eq_equiv}
 use Rattle.std.proofs.lemmas.List.Folds.{list_any-append}
 use Rattle.std.proofs.lemmas.Map.Views.{Contains-from_any, list_any-from_Contains}
 use Rattle.std.proofs.lemmas.Option.{same_Some, none-some, slice_get_within}
+use Rattle.indexmap.specs.IndexSet.{insert_key}
 use Rattle.formula_table.specs.declared.node.Node.{Node}
 use Rattle.formula_table.specs.declared.node.Node.TheVariants.{Equal, Atom, And, Or, Forall}
 use Rattle.formula_table.specs.Formulas.{Formulas, IsFormulaTable}
@@ -141,9 +143,15 @@ owed_taken asserted n i (suc k) (first ∷ nodes) node at is new =
     let rest = owed_taken asserted n (i + 1) k nodes node (omega arith) is new in
     omega (arith, head, rest)
 
+same_number : (a b : ℕ) → nat_eq a b ≡ true → a ≡ b
+same_number a b same = grind (arith, nat_tests)
+
 -- a node is among some exactly where a test finds it
 pub found_Contains : (n : ℕ) (ns : List ℕ) → list_any (nat_eq n) ns ≡ true → Contains ns n
-found_Contains n ns = Contains-from_any (λ a b same. grind arith) n ns
+found_Contains n ns = Contains-from_any same_number n ns
+
+pub Contains_found : (n : ℕ) (ns : List ℕ) → Contains ns n → list_any (nat_eq n) ns ≡ true
+Contains_found n ns = list_any-from_Contains nat_eq_equiv n ns
 
 pub absent_false : (n : ℕ) (ns : List ℕ) → (Contains ns n → ⊥) → list_any (nat_eq n) ns ≡ false
 absent_false n ns not = by (list_any (nat_eq n) ns) refl
@@ -163,3 +171,10 @@ work_less formulas n before after work rest (held_now {node} not at now put) =
     let taken = owed_taken before.asserted n 0 n formulas.nodes node (omega arith) at (absent_false n before.asserted not) in
     let len : length rest ≡ length work + length (conjuncts_of node) = ap length put ∙ length-append work (reverse (conjuncts_of node)) ∙ ap (λ (k : ℕ). length work + k) (length-reverse (conjuncts_of node)) in
     omega (arith, left, taken, len)
+
+-- a number that was put where it was absent stands last
+pub inserted_last : (after old now : List ℕ) (n : ℕ) → after ≡ insert_key nat_eq old n → old ≡ now → (Contains now n → ⊥) → after ≡ now ++ n ∷ []
+inserted_last after old now n is same absent =
+    is
+    ∙ ap (λ (list : List ℕ). insert_key nat_eq list n) same
+    ∙ ap (λ (b : Bool). cond b now (now ++ n ∷ [])) (absent_false n now absent)
