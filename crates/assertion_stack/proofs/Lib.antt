@@ -5,3 +5,4 @@ pub mod OperationLemmas
 pub mod EnteredTerms
 pub mod EntryLemmas
 pub mod StackLemmas
+pub mod AssertLemmas

@@ -1,5 +1,5 @@
 -- What levels keep.
-use Rattle.std.proofs.Common.{◌≡◌, ℕ, ◌+◌, ◌<◌, ◌≤◌, List, [], ◌∷◌, ◌++◌, length, map, take, reverse, refl, sym, ap, ap₂, subst, ◌∙◌, ⊎_elim, append-nil, arith}
+use Rattle.std.proofs.Common.{◌≡◌, ℕ, ◌+◌, ◌<◌, ◌≤◌, List, [], ◌∷◌, ◌++◌, length, map, take, reverse, refl, sym, ap, ap₂, subst, ◌∙◌, ⊎_elim, append-nil, ◌^◌, arith}
 use Rattle.std.specs.List.{before_last}
 use Rattle.std.proofs.lemmas.List.{take-take, take-append-le, take_all, length-append, length-take, reverse-append}
 use Rattle.std.proofs.lemmas.Option.{none-some}
@@ -24,7 +24,7 @@ use Rattle.assertion_stack.specs.InLevel.{GrowsGraph, KeepsLevels, StandAlike}
 use Rattle.assertion_stack.specs.Stands.{IsTableOver, AreSaved, NodesStand}
 use Rattle.assertion_stack.specs.StackInside.{saved_of, Fall, IsStackOf, assertions_with}
 use Rattle.assertion_stack.specs.GraphTerms.{with_terms}
-use Rattle.assertion_stack.proofs.Growth.{levels_of-opened, before_last-opened, opened_longer, last_same, limit_same, levels_same, grows_terms}
+use Rattle.assertion_stack.proofs.Growth.{levels_of-opened, before_last-opened, opened_longer, last_same, limit_same, levels_same, grows_terms, terms_longer}
 use Rattle.assertion_stack.proofs.EntryLemmas.{NodesStand-more}
 
 -- the levels of a graph are those for which formulas were saved
@@ -241,3 +241,19 @@ grows_entered formula terms old new number grows = record {
   foralls_are = ap (λ (formulas : Formulas). formulas.foralls) grows.new_is;
   limit_is = ap (λ (formulas : Formulas). formulas.limit) grows.new_is;
 }
+
+-- after a refused entry
+module _ (graph later : GraphState) (table same : Formulas) (asserted : List ℕ) (levels : List Level) (formula : Formula) (fault : EnterFault) (stack : IsStackOf graph table asserted levels) (is : same ≡ table)
+    (stops : StopsEntry (λ more. later ≡ with_terms graph more) (λ added. (middle : GraphState) × (middle ≡ with_terms graph added) × (later ≡ middle)) formula (terms_of graph.standing) graph.limit table fault) where
+  refused_grows : GrowsGraph graph later
+  refused_grows = stop_grows graph later formula (terms_of graph.standing) graph.limit table fault stops
+
+  -- the stack is one
+  pub refused_stack : IsStackOf later same asserted levels
+  refused_stack =
+      stack_grown graph later table same asserted asserted [] levels stack refused_grows (grows_nothing table same is) (sym (append-nil asserted))
+      (subst (λ (formulas : Formulas). NodesStand (length (terms_of later.standing)) formulas.nodes) (sym is) (NodesStand-more (length (terms_of graph.standing)) (length (terms_of later.standing)) table.nodes (terms_longer graph later refused_grows) stack.terms_stand))
+
+  -- and its levels are as before
+  pub refused_keeps : KeepsLevels (assertions_with graph table asserted levels) (assertions_with later same asserted levels)
+  refused_keeps = stack_keeps graph later table same asserted asserted [] levels stack refused_grows (grows_nothing table same is) (sym (append-nil asserted))

@@ -93,6 +93,7 @@ impl AssertionStack {
         ensures fault { IfErr result (StopsAssert shape.now self.old self.new) }
         ensures levels { KeepsLevels self.old self.new }
     {
+        let _formula = shape.root();
         let root = self.formulas.enter(&mut self.terms, shape)?;
         assert_node(
             self.alloc,

@@ -29,12 +29,7 @@ impl Model for GraphTerms {
 }
 
 /// The term of the row, which is added last where it is new.
-fn add_row(
-    alloc: Global,
-    graph: &mut Graph,
-    symbol: u32,
-    args: &[u32],
-) -> Result<u32, TableFault>
+fn add_row(alloc: Global, graph: &mut Graph, symbol: u32, args: &[u32]) -> Result<u32, TableFault>
     requires terms { All (λ arg. arg < length (terms_of graph.old.standing)) args.now }
     requires few { length args.now ≤ 255 }
     ensures ok { IfOk result (λ term. AddGrows (terms_of graph.old.standing) graph.old.limit (terms_of graph.new.standing) (λ more. graph.new ≡ with_terms graph.old more) (term_row symbol args.now) term) }

@@ -105,7 +105,15 @@ fn scripts_assert_what_they_say(rt: HostRuntime) -> Result<(), Fail> {
             [0, 1, 2, 2, 2],
         ),
         (
-            &[equal, Step::Push, both, forall, Step::Push, Step::Pop, Step::Pop],
+            &[
+                equal,
+                Step::Push,
+                both,
+                forall,
+                Step::Push,
+                Step::Pop,
+                Step::Pop,
+            ],
             [9, 9],
             [4, 1, 0, 11, 0],
             0,
