@@ -26,16 +26,16 @@ use Rattle.shape_laws.proofs.Values.{FitsIn, Both, IsFormula, fits_later, formul
 use Rattle.shape_laws.proofs.Moving.{good_application, good_unfolded}
 use Rattle.shape_laws.proofs.Forms.{Implied, last, before, good_true, good_and, good_or, good_implies, good_not, good_xor, Equated, good_equal, good_distinct, Branches, good_ite}
 
-eq_from : (m n : ℕ) → (m == n) ≡ true → m ≡ n
+pub eq_from : (m n : ℕ) → (m == n) ≡ true → m ≡ n
 eq_from m n h = grind arith
 
-some_from : (n : ℕ) → (n == 0) ≡ false → 1 ≤ n
+pub some_from : (n : ℕ) → (n == 0) ≡ false → 1 ≤ n
 some_from n h = grind arith
 
 lt_true : (m n : ℕ) → m < n → nat_lt m n ≡ true
 lt_true m n h = grind arith
 
-le_from : (m n : ℕ) → nat_le m n ≡ true → m ≤ n
+pub le_from : (m n : ℕ) → nat_le m n ≡ true → m ≤ n
 le_from m n h = grind arith
 
 pub good_want_named : (s : Setting) (draft : Draft) (test : Bool) (refusal : Refusal) (place : Place) (name : List ℕ) → Sound s draft → Good s draft (λ _ _. test ≡ true) (want_named test refusal place name draft)

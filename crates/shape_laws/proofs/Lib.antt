@@ -4,3 +4,9 @@ pub mod Values
 pub mod Forms
 pub mod Moving
 pub mod Applying
+pub mod Reaching
+pub mod Checks
+pub mod Scopes
+pub mod Rooted
+pub mod Foralls
+pub mod Terms
