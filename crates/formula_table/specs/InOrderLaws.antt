@@ -156,7 +156,11 @@ module _ {X : Type 0} where
               puts earlier last things_are (omega (arith, not_less, was.0)) more.0 more.1 more.2)
               (last_cases added)
 
-    -- so it was for fewer things
+    -- as many items stand as may, at most
+    pub still_within : (n : ℕ) (added : List X) → AreInOrder Becomes items limit n added numbers → length items ≤ limit → length (items ++ added) ≤ limit
+    still_within n added is within = ⊎_elim (λ none. omega (arith, none, within, length-append items added)) (λ room. omega (arith, room, length-append items added)) is.room
+
+    -- things that became items in order did so when there were fewer of them
     pub cut_back : (b d : ℕ) (added : List X) → AreInOrder Becomes items limit (b + d) added numbers → (front : List X) × AreInOrder Becomes items limit b front numbers
     cut_back b zero added is = let same : b + 0 ≡ b = omega arith in (added, subst (λ n. AreInOrder Becomes items limit n added numbers) same is)
     cut_back b (suc d) added is =

@@ -27,7 +27,7 @@ use Rattle.formula_table.specs.ForallLaws.{IsForallOf-table_forall}
 use Rattle.formula_table.specs.BecomesLaws.{row_becomes, node_becomes, forall_stands}
 use Rattle.formula_table.specs.InOrder.{AreInOrder}
 use Rattle.formula_table.specs.InOrderLaws.{PutLast, none_added, last_step}
-use Rattle.formula_table.specs.Entry.{BecomesRow, BecomesNode, ReachesForall, RowsGrow, ForallsGrow, TableGrows, Enters, table_forall, entered_node}
+use Rattle.formula_table.specs.Entry.{BecomesRow, BecomesNode, ReachesForall, RowsGrow, ForallsGrow, TableGrows, FillsTerms, LacksMemory, LacksNodes, Enters, table_forall, entered_node}
 
 -- the node that a reached node becomes fits a table in which its parts and its forall stand
 pub fits_entered : (formula : Formula) (terms foralls numbers : List ℕ) (table : Formulas) (n : ℕ) (node : ShapeNode) → slice_get formula.nodes n ≡ Some node → ReachesNode formula.nodes formula.root n → ((part : ℕ) → Contains (parts_of node) part → slice_index numbers part < length table.nodes) → ((index : ℕ) → ReachesForall formula index → slice_index foralls index < length table.foralls) → FitsTable table (entered_node terms foralls numbers node)
@@ -195,3 +195,14 @@ stands_after grown formula is rows limit old new number enters = record {
   terms_stand = terms_below formula is grown rows limit enters.terms enters.rows_grow old new number enters.table_grows;
   root_stands = root_below formula is enters.terms old new number enters.table_grows;
 }
+
+-- after a refusal the terms that were added leave a table, too
+module _ (grown refused : List TermRow → Type 0) (formula : Formula) (is : IsFormula formula) (rows : List TermRow) (table : IsTable rows) (limit : ℕ) where
+  pub full_terms_table : (fills : FillsTerms grown formula rows limit) → IsTable (rows ++ fills.added)
+  full_terms_table fills = rows_table formula is rows limit fills.terms table (length fills.terms) fills.added fills.enters
+
+  pub lacking_nodes_table : (old : Formulas) (lacks : LacksNodes grown formula rows limit old) → IsTable (rows ++ lacks.rows_grow.added)
+  lacking_nodes_table old lacks = rows_table formula is rows limit lacks.terms table (length lacks.terms) lacks.rows_grow.added lacks.rows_grow.enters
+
+  pub lacking_memory_table : (lacks : LacksMemory grown refused formula rows limit) → IsTable (rows ++ lacks.added)
+  lacking_memory_table lacks = rows_table formula is rows limit lacks.terms table (length lacks.terms) lacks.added lacks.enters
