@@ -8,5 +8,6 @@ pub mod Reaching
 pub mod Checks
 pub mod Scopes
 pub mod Rooted
+pub mod Marks
 pub mod Foralls
 pub mod Terms

@@ -102,7 +102,7 @@ module _ (scope : Scope) (variables : List ℕ) where
     good_stood at (Variable index sort) stands = good_then s draft _ (good_row s at draft sound (Var index) sort (record { args = All-nil (λ arg. arg < length draft.rows); few = omega arith }) (λ later n extends stands_at. variable stands_at stands)) λ r d keeps extends has.
         good_made s d (Term r sort) keeps (has, All-slice_get (λ k. 1 ≤ k) variables index sort is.others stands)
 
-    named_is : (h : Head) → IsNamed s (named_by scope.state h)
+    pub named_is : (h : Head) → IsNamed s (named_by scope.state h)
     named_is (head.Core c) = of_core
     named_is (head.Function n) = by (slice_get scope.state.functions n) refl
       where
