@@ -1,0 +1,2 @@
+//! Laws of elaboration: what it makes is a formula.
+#![tactic(auto)]
