@@ -32,6 +32,7 @@ use Rattle.smt_terms.specs.Meant.{Meaning, Meant, End, Token, Group, from, no_mo
 use Rattle.smt_terms.specs.Terms.{token_value, truth, variables_from, Attribute, attribute_if, is_pattern_key, patterns_in, Body, is_annotation, body_of, pattern_root, add_root, pattern_roots, pattern_list, trigger, triggers, some_trigger, inside_of, quantified, body_forall, bound_forall, checked_forall, forall_value}
 use Rattle.shape_laws.specs.Sorted.{HasSort, IsPlain, IsTruth, IsSorted}
 use Rattle.shape_laws.specs.Sound.{Fits, IsWhole, Stood, may_hold, IsScope}
+use Rattle.shape_laws.specs.Laws.{sorts_of}
 use Rattle.shape_laws.proofs.Growing.{Keeps, keeps_all, keeps_none, Extends, extends_itself, rows_keep, foralls_keep, sort_kept, plain_kept, sort_stands, plain_stands, truth_kept}
 use Rattle.shape_laws.proofs.Making.{Setting, Sort, Plain, Truth, Sound, Good, makes, refuses, plain_later, sort_later, good_then, good_made, good_want, good_as, good_node}
 use Rattle.shape_laws.proofs.Values.{FitsIn, IsFormula, formula_of, Each, none, more, each_map, each_append}
@@ -47,14 +48,6 @@ use Rattle.shape_laws.proofs.Rooted.{size_later, IsRoot, MakesValid}
 pub data AreVariables : ℕ → List Bound → Type 0 where
   no_more_variables : {index : ℕ} → AreVariables index []
   variable_first : {index sort : ℕ} {name : List ℕ} {bound : List Bound} → 1 ≤ sort → AreVariables (suc index) bound → AreVariables index (record { name = name; stands = Variable index sort } ∷ bound)
-
-abbrev pub sort_of_stands : Stands → ℕ
-sort_of_stands (Given v) = sort_of v
-sort_of_stands (Variable index sort) = sort
-
--- the sorts of variables
-abbrev pub sorts_of : List Bound → List ℕ
-sorts_of bound = map (λ (b : Bound). sort_of_stands b.stands) bound
 
 pub others_of : {index : ℕ} {bound : List Bound} → AreVariables index bound → All (λ sort. 1 ≤ sort) (sorts_of bound)
 others_of no_more_variables = All-nil (λ sort. 1 ≤ sort)
@@ -73,7 +66,7 @@ again [] x ys = refl
 again (y ∷ xs) x ys = ap (λ zs. y ∷ zs) (again xs x ys)
 
 -- each of them stands for the variable at its index
-stand_of : (functions : List Declared) (universal : Bool) (draft : Draft) (front : List ℕ) {index : ℕ} {bound : List Bound} → length front ≡ index → AreVariables index bound
+pub stand_of : (functions : List Declared) (universal : Bool) (draft : Draft) (front : List ℕ) {index : ℕ} {bound : List Bound} → length front ≡ index → AreVariables index bound
     → All (λ (b : Bound). Stood functions (front ++ sorts_of bound) universal draft b.stands) bound
 stand_of functions universal draft front same no_more_variables = All-nil (λ (b : Bound). Stood functions (front ++ []) universal draft b.stands)
 stand_of functions universal draft front {index} same (variable_first {sort = sort} {name = name} {bound = bound} some rest) =
@@ -88,7 +81,7 @@ module _ (s : Setting) where
   some_sort (suc n) other = omega arith
 
   -- no binding stands first
-  abbrev NoBinding : Meant → Type 0
+  abbrev pub NoBinding : Meant → Type 0
   NoBinding (Group paren meaning (Token name given) trees) = ⊥
   NoBinding trees = Unit {0}
 
@@ -97,11 +90,11 @@ module _ (s : Setting) where
   good_no_binding draft refusal trees sound = good_made s draft (tt {0}) sound (tt {0})
 
   -- variables, no more than the bindings are
-  record Variables (index : ℕ) (trees : Meant) (bound : List Bound) : Type 0 where
-    are : AreVariables index bound
-    few : (n : ℕ) → NoBinding (from n trees) → length bound ≤ n
+  pub record Variables (index : ℕ) (trees : Meant) (bound : List Bound) : Type 0 where
+    pub are : AreVariables index bound
+    pub few : (n : ℕ) → NoBinding (from n trees) → length bound ≤ n
 
-  good_variables : (draft : Draft) (state : State) (index : ℕ) (trees : Meant) → Sound s draft → Good s draft (λ _ bound. Variables index trees bound) (variables_from state index trees draft)
+  pub good_variables : (draft : Draft) (state : State) (index : ℕ) (trees : Meant) → Sound s draft → Good s draft (λ _ bound. Variables index trees bound) (variables_from state index trees draft)
   good_variables draft state index (Group paren meaning (Token name given) after) sound =
       good_then s draft _ (good_other_sort s draft state name.place given sound) λ sort d1 k1 e1 other.
       good_then s d1 _ (good_variables d1 state (index + 1) after k1) λ bound d2 k2 e2 rest.

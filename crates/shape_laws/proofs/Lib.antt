@@ -9,5 +9,8 @@ pub mod Checks
 pub mod Scopes
 pub mod Rooted
 pub mod Marks
+pub mod Keeping
+pub mod Valid
 pub mod Foralls
 pub mod Terms
+pub mod Formulas

@@ -64,7 +64,7 @@ module _ (functions : List Declared) (variables : List ℕ) (rows : List ShapeRo
     plain_row n row node at is (IsPlain.each {parts = parts} stands ps) = absurd (nothing_in row (subst (λ x. Contains (rows_of x) row) (same_Some node (And parts) (sym at ∙ stands)) is))
     plain_row n row node at is (IsPlain.one {parts = parts} stands ps) = absurd (nothing_in row (subst (λ x. Contains (rows_of x) row) (same_Some node (Or parts) (sym at ∙ stands)) is))
 
-    foralls_none : (n index : ℕ) → slice_get nodes n ≡ Some (Forall index) → IsPlain functions variables rows nodes n → ⊥
+    pub foralls_none : (n index : ℕ) → slice_get nodes n ≡ Some (Forall index) → IsPlain functions variables rows nodes n → ⊥
     foralls_none n index at (IsPlain.equation {left = left} {right = right} {positive = positive} stands l r) = no_forall (Equal positive left right) index refl (same_Some (Forall index) (Equal positive left right) (sym at ∙ stands))
     foralls_none n index at (IsPlain.atom {row = row} {positive = positive} stands r) = no_forall (Atom positive row) index refl (same_Some (Forall index) (Atom positive row) (sym at ∙ stands))
     foralls_none n index at (IsPlain.each {parts = parts} stands ps) = no_forall (And parts) index refl (same_Some (Forall index) (And parts) (sym at ∙ stands))
