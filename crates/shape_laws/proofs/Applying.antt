@@ -1,27 +1,24 @@
 -- What an application makes of arguments that fit, fits.
-use Rattle.std.proofs.Common.{◌≡◌, ℕ, suc, ◌+◌, ◌<◌, ◌≤◌, Bool, true, false, cond, not, ◌&&◌, ◌||◌, ◌==◌, nat_lt, nat_le, if◌then◌else◌, List, [], ◌∷◌, map, length, replicate, slice_get, Option, Some, None, All, refl, sym, ap, ap₂, subst, ◌∙◌, true≢false, arith}
-use Rattle.std.proofs.lemmas.Option.{none-some, same_Some}
-use Rattle.std.proofs.lemmas.List.Elements.{All-nil, All-cons, All-head, All-tail}
+use Rattle.std.proofs.Common.{◌≡◌, ℕ, suc, ◌+◌, ◌<◌, ◌≤◌, Bool, true, false, not, ◌&&◌, ◌||◌, ◌==◌, nat_lt, nat_le, if◌then◌else◌, List, [], ◌∷◌, map, length, replicate, slice_get, Some, All, refl, sym, ap, ap₂, subst, ◌∙◌, true≢false, arith}
+use Rattle.std.proofs.lemmas.List.Elements.{All-head, All-tail}
 use Rattle.smt_text.specs.declared.token.Place.{Place}
-use Rattle.formula_shape.specs.declared.shape_row.ShapeRow.TheVariants.{App}
 use Rattle.formula_shape.specs.declared.shape_node.ShapeNode.TheVariants.{Atom}
-use Rattle.formula_shape.specs.Draft.{Draft, FitsRow}
+use Rattle.formula_shape.specs.Draft.{Draft}
 use Rattle.smt_names.specs.declared.value.Value.{Value}
-use Rattle.smt_names.specs.declared.value.Value.TheVariants.{Term, Formula}
+use Rattle.smt_names.specs.declared.value.Value.TheVariants.{Term}
 use Rattle.smt_names.specs.declared.arg.Arg.{Arg}
 use Rattle.smt_names.specs.declared.connective.Connective.{Connective}
 use Rattle.smt_names.specs.declared.connective.Connective.TheVariants as core
 use Rattle.smt_names.specs.declared.refusal.Refusal.{Refusal}
 use Rattle.smt_names.specs.Value.{sort_of, row_of, has_complement, swapped}
-use Rattle.smt_names.specs.Making.{Making, made, row, want_named}
+use Rattle.smt_names.specs.Making.{made, want_named}
 use Rattle.smt_names.specs.Names.{Declared, Defined, Named, Core, Function, Definition, Unknown}
 use Rattle.smt_forms.specs.Nodes.{both, connected, application}
-use Rattle.smt_forms.specs.Applied.{has_number, right_number, values_of, sort_at, wanted_by, wanted, right_sorts, right_branches, needs, has_needed, right_complements, complements_for, checked, entered, applied}
-use Rattle.shape_laws.specs.Sorted.{HaveSorts, HasSort}
-use Rattle.shape_laws.specs.Sorted.HasSort.{application as by_application}
+use Rattle.smt_forms.specs.Applied.{has_number, values_of, sort_at, wanted, right_sorts, right_branches, needs, has_needed, right_complements, complements_for, checked, entered, applied}
+use Rattle.shape_laws.specs.Sorted.{HaveSorts}
 use Rattle.shape_laws.specs.Sound.{IsFunction, IsDefinition}
-use Rattle.shape_laws.proofs.Growing.{Extends, extends_itself, sort_stands}
-use Rattle.shape_laws.proofs.Making.{Setting, Sort, Sorts, Sound, Good, makes, refuses, sorts_later, good_then, good_made, good_want, good_as, good_row}
+use Rattle.shape_laws.proofs.Growing.{Extends, extends_itself}
+use Rattle.shape_laws.proofs.Making.{Setting, Sort, Sorts, Sound, Good, makes, refuses, good_then, good_made, good_want, good_as}
 use Rattle.shape_laws.proofs.Values.{FitsIn, Both, IsFormula, fits_later, formula_of, term_of, swapped_fits, good_both, Each, none, more, each_map}
 use Rattle.shape_laws.proofs.Moving.{good_application, good_unfolded}
 use Rattle.shape_laws.proofs.Forms.{Implied, last, before, good_true, good_and, good_or, good_implies, good_not, good_xor, Equated, good_equal, good_distinct, Branches, good_ite}
@@ -191,9 +188,12 @@ module _ (s : Setting) where
     facts_of core.Equals args passes fit = let sort = sort_at 0 args in (sort, equated_of sort (sorted_of sort args passes.sorts_are fit) (have_of (sort ≡ 0) core.Equals (length args) sort (λ zero k. ap (λ n. n == 0) zero) 0 args passes.complements_are))
     facts_of core.Distinct args passes fit =
         let sort = sort_at 0 args in
-        let sorted = sorted_of sort args passes.sorts_are fit in
-        (sort, sorted, λ a b two. equated_of sort sorted (each_map (λ v (has : (sort ≡ 0) × (length args ≡ 2) → has_complement v ≡ true) zero. has (zero, sym (as_many args) ∙ ap length two))
-            (have_of ((sort ≡ 0) × (length args ≡ 2)) core.Distinct (length args) sort (λ p k. ap₂ (λ (x y : ℕ). x == 0 && y == 2) p.0 p.1) 0 args passes.complements_are)))
+        let sorted = sorted_of sort args passes.sorts_are fit in (
+          sort,
+          sorted,
+          λ a b two. equated_of sort sorted (each_map (λ v (has : (sort ≡ 0) × (length args ≡ 2) → has_complement v ≡ true) zero. has (zero, sym (as_many args) ∙ ap length two))
+              (have_of ((sort ≡ 0) × (length args ≡ 2)) core.Distinct (length args) sort (λ p k. ap₂ (λ (x y : ℕ). x == 0 && y == 2) p.0 p.1) 0 args passes.complements_are)),
+        )
     facts_of core.Ite args passes fit = branches_of args passes fit
 
     -- the rows of arguments have the sorts that are asked for

@@ -1,16 +1,15 @@
 -- Checks of the form of lists put nothing, and give trees of the list.
-use Rattle.std.proofs.Common.{◌≡◌, ℕ, zero, suc, ◌+◌, Bool, true, false, cond, not, ◌&&◌, ◌==◌, List, [], ◌∷◌, ◌++◌, Option, Some, None, bytes_eq, refl}
+use Rattle.std.proofs.Common.{◌≡◌, ℕ, zero, suc, Bool, true, false, cond, not, ◌&&◌, ◌==◌, List, [], ◌∷◌, ◌++◌, Option, Some, None, bytes_eq}
 use Rattle.std.specs.List.{list_any}
 use Rattle.smt_text.specs.Word.{Word}
 use Rattle.smt_text.specs.declared.token.Place.{Place}
 use Rattle.formula_shape.specs.Draft.{Draft}
-use Rattle.smt_names.specs.declared.value.Value.{Value}
 use Rattle.smt_names.specs.declared.refusal.Refusal.{Refusal}
 use Rattle.smt_names.specs.declared.refusal.Refusal.TheVariants as refusal
-use Rattle.smt_names.specs.Making.{Making, made, ◌>>◌, bad_form, want}
-use Rattle.smt_names.specs.Names.{State, Scope, is_symbol, is_keyword, is_reserved, is_wide, lawful_name, known_sort, sort_number, sort_of_token}
-use Rattle.smt_terms.specs.Meant.{Meaning, Meant, End, Token, Group, from, first_place, no_more, at_most, at_least, exactly, token_first, Listed, list_first, sort_first, other_sort, new_binding, binding_name, bindings_after, one_or_more, some_bindings, no_binding, attributes_after, attributes_of}
-use Rattle.shape_laws.proofs.Making.{Setting, Sound, Good, makes, refuses, good_then, good_made, good_want, good_as}
+use Rattle.smt_names.specs.Making.{Making, ◌>>◌, bad_form, want}
+use Rattle.smt_names.specs.Names.{State, is_symbol, is_keyword, is_reserved, is_wide, known_sort, sort_number, sort_of_token}
+use Rattle.smt_terms.specs.Meant.{Meaning, Meant, End, Token, Group, from, first_place, no_more, at_least, exactly, token_first, Listed, list_first, sort_first, other_sort, new_binding, binding_name, bindings_after, some_bindings, attributes_after, attributes_of}
+use Rattle.shape_laws.proofs.Making.{Setting, Sound, Good, refuses, good_then, good_made, good_want, good_as}
 
 -- each list among the trees has a meaning for which this holds
 pub data AllMean (P : Meaning → Type 0) : Meant → Type 0 where

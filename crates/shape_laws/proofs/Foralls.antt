@@ -1,18 +1,17 @@
 -- What a forall makes, fits.
-use Rattle.std.proofs.Common.{◌≡◌, ℕ, zero, suc, ◌+◌, ◌<◌, ◌≤◌, Bool, true, false, cond, not, ◌&&◌, ◌||◌, ◌==◌, nat_le, List, [], ◌∷◌, ◌++◌, map, length, get_or, slice_get, Option, Some, None, Result, Ok, Err, All, refl, sym, ap, subst, ◌∙◌, append-nil, length-append, true≢false, arith}
+use Rattle.std.proofs.Common.{◌≡◌, ℕ, zero, suc, ◌+◌, ◌<◌, ◌≤◌, Bool, true, false, cond, not, ◌||◌, ◌==◌, nat_le, List, [], ◌∷◌, ◌++◌, length, get_or, slice_get, Some, None, Result, All, refl, sym, ap, subst, ◌∙◌, append-nil, length-append, true≢false, arith}
 use Rattle.std.proofs.lemmas.Option.{none-some, same_Some, slice_get_within, slice_get-get_or}
-use Rattle.std.proofs.lemmas.List.Elements.{All-nil, All-cons, All-append, All-weaker, All-map}
+use Rattle.std.proofs.lemmas.List.Elements.{All-nil, All-cons, All-append, All-weaker}
 use Rattle.term_table.specs.ListLaws.{slice_get-push, All-slice_get}
 use Rattle.term_table.specs.declared.trigger.Trigger.{Trigger}
 use Rattle.term_table.specs.Trigger.{IsValid}
-use Rattle.smt_text.specs.Word.{Word}
 use Rattle.smt_text.specs.declared.token.Place.{Place}
 use Rattle.formula_shape.specs.declared.shape_row.ShapeRow.{ShapeRow}
 use Rattle.formula_shape.specs.declared.shape_row.ShapeRow.TheVariants.{Var, App}
 use Rattle.formula_shape.specs.declared.shape_node.ShapeNode.{ShapeNode}
 use Rattle.formula_shape.specs.declared.shape_node.ShapeNode.TheVariants.{Equal, Atom, And, Or, Forall}
 use Rattle.formula_shape.specs.declared.shape_forall.ShapeForall.{ShapeForall}
-use Rattle.formula_shape.specs.Draft.{Draft, IsDraft, FitsTrigger, FitsForall, with_forall, shape_forall}
+use Rattle.formula_shape.specs.Draft.{Draft, FitsTrigger, FitsForall, shape_forall}
 use Rattle.formula_shape.specs.KeptLaws.{IsDraft-with_forall}
 use Rattle.smt_names.specs.declared.value.Value.{Value}
 use Rattle.smt_names.specs.declared.value.Value.TheVariants.{Term, Formula}
@@ -23,24 +22,24 @@ use Rattle.smt_names.specs.declared.syntax_fault.SyntaxFault.{SyntaxFault}
 use Rattle.smt_names.specs.declared.refusal.Refusal.{Refusal}
 use Rattle.smt_names.specs.declared.refusal.Refusal.TheVariants as refusal
 use Rattle.smt_names.specs.Value.{sort_of, self, has_complement}
-use Rattle.smt_names.specs.Making.{Making, made, ◌>>◌, want, node, put_forall}
+use Rattle.smt_names.specs.Making.{Making, made, ◌>>◌, node, put_forall}
 use Rattle.smt_names.specs.Names.{State, Scope, Declared}
 use Rattle.shape_patterns.specs.Patterns.{size_of, trigger_of, occurs}
-use Rattle.shape_patterns.specs.Roots.{positive_row, atom_row, no_variable, root_of, small_enough, small_root}
-use Rattle.shape_patterns.specs.Triggers.{each_occurs, trigger_made, rooted_trigger}
-use Rattle.smt_terms.specs.Meant.{Meaning, Meant, End, Token, Group, from, no_more, at_least, exactly, Listed, other_sort, some_bindings, no_binding, attributes_of}
-use Rattle.smt_terms.specs.Terms.{token_value, truth, variables_from, Attribute, attribute_if, is_pattern_key, patterns_in, Body, is_annotation, body_of, pattern_root, add_root, pattern_roots, pattern_list, trigger, triggers, some_trigger, inside_of, quantified, body_forall, bound_forall, checked_forall, forall_value}
-use Rattle.shape_laws.specs.Sorted.{HasSort, IsPlain, IsTruth, IsSorted}
-use Rattle.shape_laws.specs.Sound.{Fits, IsWhole, Stood, may_hold, IsScope}
+use Rattle.shape_patterns.specs.Roots.{positive_row, atom_row, no_variable, root_of, small_root}
+use Rattle.shape_patterns.specs.Triggers.{each_occurs, rooted_trigger}
+use Rattle.smt_terms.specs.Meant.{Meant, End, Token, Group, from, no_more, at_least, Listed, no_binding, attributes_of}
+use Rattle.smt_terms.specs.Terms.{token_value, variables_from, Attribute, attribute_if, is_pattern_key, patterns_in, Body, is_annotation, body_of, pattern_root, add_root, pattern_roots, pattern_list, trigger, triggers, some_trigger, inside_of, quantified, body_forall, bound_forall, checked_forall, forall_value}
+use Rattle.shape_laws.specs.Sorted.{HasSort, IsPlain, IsTruth, IsSortedTrigger}
+use Rattle.shape_laws.specs.Sound.{Fits, Stood, may_hold, IsScope}
 use Rattle.shape_laws.specs.Laws.{sorts_of}
-use Rattle.shape_laws.proofs.Growing.{Keeps, keeps_all, keeps_none, Extends, extends_itself, rows_keep, foralls_keep, sort_kept, plain_kept, sort_stands, plain_stands, truth_kept}
+use Rattle.shape_laws.proofs.Growing.{keeps_all, keeps_none, Extends, rows_keep, foralls_keep, sort_kept, plain_kept, sort_stands, plain_stands, truth_kept}
 use Rattle.shape_laws.proofs.Making.{Setting, Sort, Plain, Truth, Sound, Good, makes, refuses, plain_later, sort_later, good_then, good_made, good_want, good_as, good_node}
-use Rattle.shape_laws.proofs.Values.{FitsIn, IsFormula, formula_of, Each, none, more, each_map, each_append}
+use Rattle.shape_laws.proofs.Values.{FitsIn, IsFormula, formula_of, Each, none, more, each_append}
 use Rattle.shape_laws.proofs.Moving.{variable_of}
 use Rattle.shape_laws.proofs.Applying.{good_want_named, le_from}
 use Rattle.shape_laws.proofs.Reaching.{reached_sorted, reaches_no_forall}
-use Rattle.shape_laws.proofs.Checks.{AllMean, end, token, group, from_mean, passes_exactly, passes_at_least, passes_no_more, passes_attributes_of, good_some_bindings, good_other_sort}
-use Rattle.shape_laws.proofs.Scopes.{no_definition, setting, GoodMeaning, scope_later, good_token, good_formula, good_value}
+use Rattle.shape_laws.proofs.Checks.{AllMean, token, group, from_mean, passes_exactly, passes_attributes_of, good_some_bindings, good_other_sort}
+use Rattle.shape_laws.proofs.Scopes.{setting, GoodMeaning, scope_later, good_token, good_formula}
 use Rattle.shape_laws.proofs.Rooted.{size_later, IsRoot, MakesValid}
 
 -- Variables.
@@ -73,13 +72,13 @@ stand_of functions universal draft front {index} same (variable_first {sort = so
     let P : Bound → Type 0 = λ (b : Bound). Stood functions (front ++ sort ∷ sorts_of bound) universal draft b.stands in
     All-cons P (record { name = name; stands = Variable index sort }) bound (subst (λ k. slice_get (front ++ sort ∷ sorts_of bound) k ≡ Some sort) same (behind front sort (sorts_of bound)))
     (subst (λ (all : List ℕ). All (λ (b : Bound). Stood functions all universal draft b.stands) bound) (again front sort (sorts_of bound))
-        (stand_of functions universal draft (front ++ sort ∷ []) (omega (arith, same, length-append front (sort ∷ []))) rest))
+    (stand_of functions universal draft (front ++ sort ∷ []) (omega (arith, same, length-append front (sort ∷ []))) rest))
+
+pub some_sort : (sort : ℕ) → not (sort == 0) ≡ true → 1 ≤ sort
+some_sort zero other = absurd (true≢false (sym other))
+some_sort (suc n) other = omega arith
 
 module _ (s : Setting) where
-  some_sort : (sort : ℕ) → not (sort == 0) ≡ true → 1 ≤ sort
-  some_sort zero other = absurd (true≢false (sym other))
-  some_sort (suc n) other = omega arith
-
   -- no binding stands first
   abbrev pub NoBinding : Meant → Type 0
   NoBinding (Group paren meaning (Token name given) trees) = ⊥
@@ -293,20 +292,22 @@ module _ (scope : Scope) (variables : List ℕ) (within : scope.in_forall ≡ tr
 
   module _ (valid : MakesValid) (bound : List Bound) (count_is : length variables ≡ length bound) (few : length bound ≤ 32) where
     abbrev Fit : Trigger → Type 0
-    Fit t = FitsTrigger (length bound) t
+    Fit t = FitsTrigger (length bound) t × IsSortedTrigger s.functions variables t
 
     good_rooted : (draft : Draft) (at : Place) (roots : List ℕ) → Sound s draft → Each (Root s draft) roots → 1 ≤ length roots → length roots ≤ 16 → Good s draft (λ _ t. Fit t) (rooted_trigger bound at roots draft)
     good_rooted draft at roots sound are some most =
         let t = trigger_of (length bound) draft.rows roots in
         good_then s draft _ (good_each_occurs draft at t 0 bound sound) λ _ d1 k1 e1 occur.
-        good_made s d1 t k1 (record { valid = valid_here draft sound roots are some most occur; variables_are = refl })
+        let is = valid_here draft sound roots are some most occur in
+        good_made s d1 t k1 (record { valid = is.0; variables_are = refl }, is.1)
       where
         valid_here : (draft : Draft) → Sound s draft → (roots : List ℕ) → Each (Root s draft) roots → 1 ≤ length roots → length roots ≤ 16
-            → ((k : ℕ) → k < length bound → occurs (trigger_of (length bound) draft.rows roots) (0 + k) ≡ true) → IsValid (trigger_of (length bound) draft.rows roots)
+            → ((k : ℕ) → k < length bound → occurs (trigger_of (length bound) draft.rows roots) (0 + k) ≡ true)
+            → IsValid (trigger_of (length bound) draft.rows roots) × IsSortedTrigger s.functions variables (trigger_of (length bound) draft.rows roots)
         valid_here draft sound roots are some most occur =
-            subst (λ n. IsValid (trigger_of n draft.rows roots)) count_is
+            subst (λ n. IsValid (trigger_of n draft.rows roots) × IsSortedTrigger s.functions variables (trigger_of n draft.rows roots)) count_is
             (valid s.functions variables draft sound.draft_is roots are some most (omega (arith, count_is, few))
-                (λ index below. ap (λ n. occurs (trigger_of n draft.rows roots) index) count_is ∙ ap (λ k. occurs (trigger_of (length bound) draft.rows roots) k) (no_less index) ∙ occur index (omega (arith, count_is, below))))
+            (λ index below. ap (λ n. occurs (trigger_of n draft.rows roots) index) count_is ∙ ap (λ k. occurs (trigger_of (length bound) draft.rows roots) k) (no_less index) ∙ occur index (omega (arith, count_is, below))))
           where
             no_less : (k : ℕ) → k ≡ 0 + k
             no_less k = omega arith
@@ -346,9 +347,10 @@ module _ (functions : List Declared) (variables : List ℕ) (universal : Bool) (
   fits_inside (Term row sort) fits = (sort_kept functions functions (keeps_all functions) draft.rows draft.rows (keeps_all draft.rows) [] variables (keeps_none variables) fits.0, fits.1)
   fits_inside (Formula n None) fits =
       (truth_kept functions functions (keeps_all functions) draft.rows draft.rows (keeps_all draft.rows) draft.nodes draft.nodes (keeps_all draft.nodes) draft.foralls draft.foralls (keeps_all draft.foralls) [] variables (keeps_none variables) fits.0, fits.1)
-  fits_inside (Formula n (Some c)) fits =
-      (plain_kept functions functions (keeps_all functions) draft.rows draft.rows (keeps_all draft.rows) draft.nodes draft.nodes (keeps_all draft.nodes) [] variables (keeps_none variables) fits.0,
-      plain_kept functions functions (keeps_all functions) draft.rows draft.rows (keeps_all draft.rows) draft.nodes draft.nodes (keeps_all draft.nodes) [] variables (keeps_none variables) fits.1)
+  fits_inside (Formula n (Some c)) fits = (
+    plain_kept functions functions (keeps_all functions) draft.rows draft.rows (keeps_all draft.rows) draft.nodes draft.nodes (keeps_all draft.nodes) [] variables (keeps_none variables) fits.0,
+    plain_kept functions functions (keeps_all functions) draft.rows draft.rows (keeps_all draft.rows) draft.nodes draft.nodes (keeps_all draft.nodes) [] variables (keeps_none variables) fits.1,
+  )
 
   stood_inside : (stands : Stands) → Stood functions [] universal draft stands → Stood functions variables universal draft stands
   stood_inside (Given v) fits = fits_inside v fits
@@ -393,7 +395,11 @@ module _ (valid : MakesValid) (scope : Scope) (may : may_hold scope ≡ true) wh
         by is true has = (is.with has).itself
         by is false hasnt = absurd (true≢false (sym (is.without hasnt)))
 
-    forall_fits : (draft : Draft) (body : ℕ) (patterns : List Trigger) → Plain inner draft body → All (λ t. FitsTrigger (length bound) t) patterns → FitsForall draft.rows draft.nodes (shape_forall (length bound) body patterns)
+    -- the trigger fits the variables, and its rows have sorts by them
+    abbrev FitsInside : Trigger → Type 0
+    FitsInside t = FitsTrigger (length bound) t × IsSortedTrigger scope.state.functions (sorts_of bound) t
+
+    forall_fits : (draft : Draft) (body : ℕ) (patterns : List Trigger) → Plain inner draft body → All FitsInside patterns → FitsForall draft.rows draft.nodes (shape_forall (length bound) body patterns)
     forall_fits draft body patterns plain fit = record {
       few_variables = few;
       body_stands = plain_stands plain;
@@ -402,7 +408,7 @@ module _ (valid : MakesValid) (scope : Scope) (may : may_hold scope ≡ true) wh
           let had = reached_sorted scope.state.functions (sorts_of bound) draft.rows draft.nodes body plain reach in
           let stands = slice_get_within (sorts_of bound) index had.0 (variable_of row index had.0 at had.1) in
           omega (arith, stands, count_of bound);
-      triggers_fit = fit;
+      triggers_fit = All-weaker FitsInside (λ (t : Trigger). FitsTrigger (length bound) t) (λ t both. both.0) patterns fit;
     }
 
     -- a forall is put
@@ -416,11 +422,12 @@ module _ (valid : MakesValid) (scope : Scope) (may : may_hold scope ≡ true) wh
         (record { more_rows = []; rows = sym (append-nil draft.rows); more_nodes = []; nodes = sym (append-nil draft.nodes); more_foralls = new ∷ []; foralls = refl })
         (slice_get-push draft.foralls new)
 
-    good_forall_node : (paren : Place) (draft : Draft) (index : ℕ) (new : ShapeForall) → Sound outer draft → Put draft index new → length (sorts_of bound) ≡ new.variables → Plain inner draft new.body → Good outer draft (λ d n. Truth outer d n) (node paren (Forall index) draft)
+    good_forall_node : (paren : Place) (draft : Draft) (index : ℕ) (new : ShapeForall) → Sound outer draft → Put draft index new → length (sorts_of bound) ≡ new.variables → Plain inner draft new.body → All (IsSortedTrigger scope.state.functions (sorts_of bound)) new.triggers
+        → Good outer draft (λ d n. Truth outer d n) (node paren (Forall index) draft)
     unfolding Put
-    good_forall_node paren draft index new sound at same plain = good_node outer paren draft sound (Forall index) (λ d n. Truth outer d n)
+    good_forall_node paren draft index new sound at same plain sorted = good_node outer paren draft sound (Forall index) (λ d n. Truth outer d n)
         (record { rows_stand = All-nil (λ row. row < length draft.rows); parts_stand = All-nil (λ n. n < length draft.nodes); foralls_stand = All-cons (λ n. n < length draft.foralls) index [] (slice_get_within draft.foralls index new at) (All-nil (λ n. n < length draft.foralls)) })
-        (λ later n extends stands. (IsTruth.universal stands (foralls_keep draft later extends index new at) (record { sorts = sorts_of bound; count = same; body = plain_later inner draft later extends plain }), λ w. absurd (true≢false (sym w ∙ whole_is))))
+        (λ later n extends stands. (IsTruth.universal stands (foralls_keep draft later extends index new at) (record { sorts = sorts_of bound; count = same; body = plain_later inner draft later extends plain; triggers = sorted }), λ w. absurd (true≢false (sym w ∙ whole_is))))
 
     good_quantified : (paren head : Place) (draft : Draft) (body : Body) → Sound outer draft → IsScope [] draft scope → BodyMeans body → Good outer draft (λ d v. FitsIn outer d v) (quantified paren head scope bound body draft)
     good_quantified paren head draft body sound is means =
@@ -433,7 +440,7 @@ module _ (valid : MakesValid) (scope : Scope) (may : may_hold scope ≡ true) wh
         let plain3 = plain_later inner d2 d3 e3 plain2 in
         good_then outer d3 _ (good_put d3 (shape_forall (length bound) (self v) patterns) k3 (forall_fits d3 (self v) patterns plain3 fit)) λ index d4 k4 e4 at.
         let plain4 = plain_later inner d3 d4 e4 plain3 in
-        good_then outer d4 _ (good_forall_node paren d4 index (shape_forall (length bound) (self v) patterns) k4 at (count_of bound) plain4) λ n d5 k5 e5 truth_is.
+        good_then outer d4 _ (good_forall_node paren d4 index (shape_forall (length bound) (self v) patterns) k4 at (count_of bound) plain4 (All-weaker FitsInside (IsSortedTrigger scope.state.functions (sorts_of bound)) (λ t both. both.1) patterns fit)) λ n d5 k5 e5 truth_is.
         good_made outer d5 (Formula n None) k5 (truth_is, may)
 
     good_body_forall : (paren head : Place) (draft : Draft) (trees : Meant) → Sound outer draft → IsScope [] draft scope → AllMean GoodMeaning trees → Good outer draft (λ d v. FitsIn outer d v) (body_forall paren head scope bound trees draft)
@@ -458,4 +465,4 @@ pub good_forall : MakesValid → (paren head : Place) (parts : Meant) → AllMea
 good_forall valid paren head parts all scope variables draft sound is =
     good_then (setting scope variables) draft _ (good_want (setting scope variables) draft (may_hold scope) refusal.NotInProfile head sound) λ _ d1 k1 e1 may.
     subst (λ vs. Sound (setting scope vs) d1 → IsScope vs d1 scope → Good (setting scope vs) d1 (λ d v. FitsIn (setting scope vs) d v) (checked_forall paren head parts scope d1)) (sym (is.outside may))
-        (λ sound1 is1. good_checked_forall valid scope may paren head parts d1 sound1 is1 all) k1 (scope_later scope variables draft d1 e1 is)
+    (λ sound1 is1. good_checked_forall valid scope may paren head parts d1 sound1 is1 all) k1 (scope_later scope variables draft d1 e1 is)

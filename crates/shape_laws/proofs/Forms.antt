@@ -1,19 +1,19 @@
 -- What each form makes of values that fit, fits.
-use Rattle.std.proofs.Common.{◌≡◌, ℕ, ◌≤◌, Bool, true, false, cond, ◌&&◌, List, [], ◌∷◌, ◌++◌, map, Option, Some, None, option_map, is_some, unwrap_or, refl, sym, ap, subst, ◌∙◌, true≢false, arith}
+use Rattle.std.proofs.Common.{◌≡◌, ℕ, Bool, true, false, cond, ◌&&◌, List, [], ◌∷◌, ◌++◌, map, Option, Some, None, option_map, is_some, unwrap_or, refl, sym, ap, subst, ◌∙◌, true≢false, arith}
 use Rattle.smt_text.specs.declared.token.Place.{Place}
 use Rattle.formula_shape.specs.declared.shape_node.ShapeNode.{ShapeNode}
-use Rattle.formula_shape.specs.declared.shape_node.ShapeNode.TheVariants.{Equal, Atom, And, Or, Forall}
+use Rattle.formula_shape.specs.declared.shape_node.ShapeNode.TheVariants.{Equal, And, Or}
 use Rattle.formula_shape.specs.Draft.{Draft}
 use Rattle.smt_names.specs.declared.value.Value.{Value}
 use Rattle.smt_names.specs.declared.value.Value.TheVariants.{Term, Formula}
 use Rattle.smt_names.specs.Value.{sort_of, row_of, self, complement, has_complement, other, swapped}
-use Rattle.smt_names.specs.Making.{Making, made, ◌>>=◌, node, node_if}
+use Rattle.smt_names.specs.Making.{Making, ◌>>=◌}
 use Rattle.smt_forms.specs.declared.crossed.Crossed.{Crossed}
-use Rattle.smt_forms.specs.Nodes.{selves, all_have_complements, complements, both, true_form, not_form, and_form, or_form, implied, refuted, implies_form, or_of, and_of, crossed, xor_of_two, same_truth, xor_from, xor_form, equal_of_two, neighbours, all_equal, equal_form, distinct_of_two, distinct_from, distinct_pairs, never, all_distinct, distinct_of_many, distinct_form, ite_complement, ite_of_three, ite_form}
+use Rattle.smt_forms.specs.Nodes.{selves, all_have_complements, complements, both, true_form, not_form, and_form, or_form, implied, refuted, implies_form, or_of, and_of, crossed, xor_of_two, same_truth, xor_from, xor_form, equal_of_two, neighbours, equal_form, distinct_of_two, distinct_from, distinct_pairs, never, distinct_of_many, distinct_form, ite_complement, ite_of_three, ite_form}
 use Rattle.shape_laws.specs.Sorted.{ArePlain, AreTruths, IsTruth}
 use Rattle.shape_laws.proofs.Growing.{Extends}
-use Rattle.shape_laws.proofs.Making.{Setting, Sort, Plain, Plains, Truth, Truths, Sound, Good, makes, refuses, sort_later, plain_later, plains_later, truth_later, truths_later, good_then, good_made, good_as}
-use Rattle.shape_laws.proofs.Values.{PlainNode, TruthNode, good_plain, good_truth, FitsIn, Both, IsFormula, Twofold, fits_later, both_later, formula_later, formula_of, term_of, twofold_later, swapped_fits, good_both, good_alone, Each, none, more, each_map, each_append}
+use Rattle.shape_laws.proofs.Making.{Setting, Plain, Plains, Truth, Truths, Sound, Good, refuses, plain_later, truth_later, good_then, good_made, good_as}
+use Rattle.shape_laws.proofs.Values.{PlainNode, good_plain, good_truth, FitsIn, Both, IsFormula, Twofold, fits_later, both_later, formula_later, formula_of, term_of, twofold_later, swapped_fits, good_both, good_alone, Each, none, more, each_map, each_append}
 
 and_parts : (a b : Bool) → (a && b) ≡ true → (a ≡ true) × (b ≡ true)
 and_parts true b h = (refl, h)
@@ -117,7 +117,6 @@ module _ (s : Setting) (at : Place) where
     good_not [] are = refuses
     good_not (a ∷ []) (more both rest) = good_made s draft (swapped a) sound (swapped_fits s draft a both).fits
     good_not (a ∷ b ∷ parts) are = refuses
-
 
   two : (d : Draft) (a b : ℕ) → Plain s d a → Plain s d b → Plains s d (a ∷ b ∷ [])
   two d a b first second = ArePlain.more first (ArePlain.more second ArePlain.none)

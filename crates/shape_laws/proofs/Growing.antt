@@ -1,14 +1,16 @@
 -- What stays so when rows, nodes and foralls come.
-use Rattle.std.proofs.Common.{◌≡◌, ℕ, ◌+◌, ◌<◌, Bool, List, [], ◌∷◌, ◌++◌, length, slice_get, Some, sym, ap, subst, ◌∙◌, refl}
+use Rattle.std.proofs.Common.{◌≡◌, ℕ, ◌<◌, List, [], ◌++◌, map, length, slice_get, Some, sym, ap, subst, ◌∙◌}
 use Rattle.std.proofs.lemmas.List.{append-nil, append_assoc}
 use Rattle.std.proofs.lemmas.Option.{slice_get_within, none-some}
+use Rattle.std.proofs.lemmas.List.Elements.{All-weaker}
 use Rattle.term_table.specs.ListLaws.{slice_get-append_left}
+use Rattle.term_table.specs.declared.trigger.Trigger.{Trigger}
 use Rattle.formula_shape.specs.declared.shape_row.ShapeRow.{ShapeRow}
 use Rattle.formula_shape.specs.declared.shape_node.ShapeNode.{ShapeNode}
 use Rattle.formula_shape.specs.declared.shape_forall.ShapeForall.{ShapeForall}
 use Rattle.formula_shape.specs.Draft.{Draft}
 use Rattle.smt_names.specs.Names.{Declared}
-use Rattle.shape_laws.specs.Sorted.{HasSort, HaveSorts, IsPlain, ArePlain, IsSorted, IsTruth, AreTruths}
+use Rattle.shape_laws.specs.Sorted.{HasSort, HaveSorts, IsPlain, ArePlain, as_row, IsSortedTrigger, IsSorted, IsTruth, AreTruths}
 use Rattle.shape_laws.specs.Sorted.HasSort.{variable, application}
 
 -- what stands in the old list stands there in the new one
@@ -35,12 +37,20 @@ module _ (functions functions' : List Declared) (more_functions : Keeps function
       sorts_kept HaveSorts.none = HaveSorts.none
       sorts_kept (HaveSorts.more first others) = HaveSorts.more (sort_kept first) (sorts_kept others)
 
+-- a trigger stays sorted when functions come
+trigger_kept : (functions functions' : List Declared) → Keeps functions functions' → (variables : List ℕ) (trigger : Trigger) → IsSortedTrigger functions variables trigger → IsSortedTrigger functions' variables trigger
+trigger_kept functions functions' more_functions variables trigger sorted row within =
+    let had = sorted row within in
+    let rows = map as_row trigger.rows in
+    (had.0, sort_kept functions functions' more_functions rows rows (keeps_all rows) variables variables (keeps_all variables) had.1)
+
+module _ (functions functions' : List Declared) (more_functions : Keeps functions functions') (rows rows' : List ShapeRow) (more_rows : Keeps rows rows') where
   module _ (nodes nodes' : List ShapeNode) (more_nodes : Keeps nodes nodes') where
     module _ (variables variables' : List ℕ) (more_variables : Keeps variables variables') where
       mutual
         pub plain_kept : {n : ℕ} → IsPlain functions variables rows nodes n → IsPlain functions' variables' rows' nodes' n
-        plain_kept (IsPlain.equation {n = n} at left right) = IsPlain.equation (more_nodes n _ at) (sort_kept variables variables' more_variables left) (sort_kept variables variables' more_variables right)
-        plain_kept (IsPlain.atom {n = n} at row) = IsPlain.atom (more_nodes n _ at) (sort_kept variables variables' more_variables row)
+        plain_kept (IsPlain.equation {n = n} at left right) = IsPlain.equation (more_nodes n _ at) (sort_kept functions functions' more_functions rows rows' more_rows variables variables' more_variables left) (sort_kept functions functions' more_functions rows rows' more_rows variables variables' more_variables right)
+        plain_kept (IsPlain.atom {n = n} at row) = IsPlain.atom (more_nodes n _ at) (sort_kept functions functions' more_functions rows rows' more_rows variables variables' more_variables row)
         plain_kept (IsPlain.each {n = n} at parts) = IsPlain.each (more_nodes n _ at) (plains_kept parts)
         plain_kept (IsPlain.one {n = n} at parts) = IsPlain.one (more_nodes n _ at) (plains_kept parts)
 
@@ -49,7 +59,7 @@ module _ (functions functions' : List Declared) (more_functions : Keeps function
         plains_kept (ArePlain.more first others) = ArePlain.more (plain_kept first) (plains_kept others)
 
     pub sorted_kept : (forall : ShapeForall) → IsSorted functions rows nodes forall → IsSorted functions' rows' nodes' forall
-    sorted_kept forall is = record { sorts = is.sorts; count = is.count; body = plain_kept is.sorts is.sorts (keeps_all is.sorts) is.body }
+    sorted_kept forall is = record { sorts = is.sorts; count = is.count; body = plain_kept is.sorts is.sorts (keeps_all is.sorts) is.body; triggers = All-weaker (IsSortedTrigger functions is.sorts) (IsSortedTrigger functions' is.sorts) (λ t. trigger_kept functions functions' more_functions is.sorts t) forall.triggers is.triggers }
 
     module _ (foralls foralls' : List ShapeForall) (more_foralls : Keeps foralls foralls') (variables variables' : List ℕ) (more_variables : Keeps variables variables') where
       mutual

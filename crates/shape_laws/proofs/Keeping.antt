@@ -1,6 +1,6 @@
 -- Which rows a trigger keeps, and their new numbers.
-use Rattle.std.proofs.Common.{◌≡◌, ℕ, zero, suc, ◌+◌, ◌<◌, ◌≤◌, ◌⊎◌, ⊎_elim, inl, inr, Bool, true, false, List, [], ◌∷◌, ◌++◌, map, length, get_or, slice_get, Option, Some, None, All, refl, sym, ap, subst, ◌∙◌, true≢false, append-nil, append_assoc, length-append, arith}
-use Rattle.std.proofs.lemmas.Option.{none-some, same_Some, slice_get_within}
+use Rattle.std.proofs.Common.{◌≡◌, ℕ, zero, suc, ◌<◌, ◌≤◌, ◌⊎◌, ⊎_elim, inl, inr, Bool, true, false, List, [], ◌∷◌, ◌++◌, length, get_or, slice_get, Some, All, refl, sym, ap, subst, ◌∙◌, true≢false, append-nil, append_assoc, length-append, arith}
+use Rattle.std.proofs.lemmas.Option.{same_Some, slice_get_within}
 use Rattle.std.proofs.lemmas.List.Elements.{All-head, All-tail, All-weaker}
 use Rattle.term_table.specs.ListLaws.{slice_get-append_left, slice_get-push, element_at}
 use Rattle.term_table.specs.declared.pattern_row.PatternRow.{PatternRow}
@@ -80,8 +80,8 @@ module _ (rows : List ShapeRow) (fit : (n : ℕ) (row : ShapeRow) → slice_get 
       placed = λ i row within at is. ⊎_elim
           (λ less. old_placed n (x ∷ []) i row less at is)
           (λ same. let row_is : next ≡ row = same_Some next row (sym next_at ∙ ap (slice_get rows) (sym same) ∙ at) in
-              ap (λ k. slice_get (kept.rows ++ x ∷ []) k) (new_number n i same) ∙ slice_get-push kept.rows x
-              ∙ ap Some (sym (same_row n front next next_at (omega arith)) ∙ ap (renumbered (numbers ++ n ∷ [])) row_is))
+          ap (λ k. slice_get (kept.rows ++ x ∷ []) k) (new_number n i same) ∙ slice_get-push kept.rows x
+          ∙ ap Some (sym (same_row n front next next_at (omega arith)) ∙ ap (renumbered (numbers ++ n ∷ [])) row_is))
           (old_or_new i front within);
       origin = λ p within. ⊎_elim
           (λ less. let o = so.origin p less in (o.0, omega (arith, o.1), o.2, old_number n o.0 o.1 ∙ o.3))
@@ -90,8 +90,8 @@ module _ (rows : List ShapeRow) (fit : (n : ℕ) (row : ShapeRow) → slice_get 
       rising = λ i j less within is_i is_j. ⊎_elim
           (λ below. omega (arith, so.rising i j less below is_i is_j, old_number n i (omega (arith, less, below)), old_number n j below))
           (λ same. let inside : i < front = omega (arith, less, same) in
-              let row = element_at rows i (omega (arith, inside, slice_get_within rows front next next_at)) in
-              omega (arith, number_below i row.0 inside row.1 is_i, old_number n i inside, new_number n j same))
+          let row = element_at rows i (omega (arith, inside, slice_get_within rows front next next_at)) in
+          omega (arith, number_below i row.0 inside row.1 is_i, old_number n i inside, new_number n j same))
           (old_or_new j front within);
     }
 

@@ -1,33 +1,25 @@
 -- Making that keeps a draft sound.
-use Rattle.std.proofs.Common.{◌≡◌, ℕ, ◌+◌, ◌<◌, ◌≤◌, ◌⊎◌, ⊎_elim, inl, inr, Bool, true, false, List, [], ◌∷◌, ◌++◌, length, slice_get, Option, Some, None, Result, Ok, Err, All, refl, sym, ap, subst, ◌∙◌, append-nil}
+use Rattle.std.proofs.Common.{◌≡◌, ℕ, ◌⊎◌, ⊎_elim, inl, inr, Bool, true, false, List, [], ◌∷◌, ◌++◌, length, slice_get, Option, Some, None, Result, Ok, Err, refl, sym, subst, append-nil}
 use Rattle.std.specs.Option.{option_map}
-use Rattle.std.specs.List.{position_from}
-use Rattle.std.proofs.lemmas.List.Elements.{All-nil, All-cons}
 use Rattle.term_table.specs.ListLaws.{slice_get-push, push_cases}
 use Rattle.smt_text.specs.declared.token.Place.{Place}
 use Rattle.formula_shape.specs.declared.shape_row.ShapeRow.{ShapeRow}
-use Rattle.formula_shape.specs.declared.shape_row.ShapeRow.TheVariants.{Var, App}
 use Rattle.formula_shape.specs.declared.shape_node.ShapeNode.{ShapeNode}
-use Rattle.formula_shape.specs.declared.shape_node.ShapeNode.TheVariants.{Equal, Atom, And, Or, Forall}
-use Rattle.formula_shape.specs.declared.shape_forall.ShapeForall.{ShapeForall}
 use Rattle.formula_shape.specs.ShapeRow.{same_row}
-use Rattle.formula_shape.specs.ShapeNode.{same_node, parts_of}
+use Rattle.formula_shape.specs.ShapeNode.{same_node}
 use Rattle.formula_shape.specs.Items.{with_item}
 use Rattle.formula_shape.specs.ItemLaws.{put_cases}
 use Rattle.formula_shape.specs.SameLaws.{Tells, found_at, rows_told, nodes_told}
 use Rattle.formula_shape.specs.Draft.{Draft, IsDraft, FitsRow, FitsNode}
 use Rattle.formula_shape.specs.KeptLaws.{IsDraft-row, IsDraft-node}
-use Rattle.smt_names.specs.declared.value.Value.{Value}
-use Rattle.smt_names.specs.declared.value.Value.TheVariants.{Term, Formula}
 use Rattle.smt_names.specs.declared.syntax_fault.SyntaxFault.{SyntaxFault}
 use Rattle.smt_names.specs.declared.refusal.Refusal.{Refusal}
 use Rattle.smt_names.specs.declared.refusal.Refusal.TheVariants.{TermsFull, NodesFull}
-use Rattle.smt_names.specs.Making.{Making, made, then_from, or_full, row, node, node_if, want}
+use Rattle.smt_names.specs.Making.{Making, made, then_from, or_full, row, node, want}
 use Rattle.smt_names.specs.Names.{Declared}
-use Rattle.shape_laws.specs.Sorted.{HasSort, HaveSorts, IsPlain, ArePlain, IsTruth, AreTruths, IsSorted}
-use Rattle.shape_laws.specs.Sorted.HasSort.{variable, application}
-use Rattle.shape_laws.specs.Sound.{Fits, IsWhole}
-use Rattle.shape_laws.proofs.Growing.{Keeps, keeps_all, Extends, extends_itself, extends_twice, rows_keep, nodes_keep, foralls_keep, sort_kept, sorts_kept, plain_kept, plains_kept, truth_kept, truths_kept, sorted_kept, sort_stands, plain_stands, truth_stands}
+use Rattle.shape_laws.specs.Sorted.{HasSort, HaveSorts, IsPlain, ArePlain, IsTruth, AreTruths}
+use Rattle.shape_laws.specs.Sound.{IsWhole}
+use Rattle.shape_laws.proofs.Growing.{keeps_all, Extends, extends_itself, extends_twice, rows_keep, nodes_keep, foralls_keep, sort_kept, sorts_kept, plain_kept, plains_kept, truth_kept, truths_kept}
 
 -- Where parts are made: the functions, the sorts of the variables, whether a formula may hold a forall, and whether all rows and nodes
 -- have sorts by these variables, as in a definition.

@@ -1,5 +1,5 @@
 -- Which rows of a pattern are marked.
-use Rattle.std.proofs.Common.{◌≡◌, ℕ, zero, suc, ◌+◌, ◌<◌, ◌≤◌, ◌⊎◌, ⊎_elim, inl, inr, Bool, true, false, List, [], ◌∷◌, length, get_or, slice_get, slice_set, replicate, Option, Some, None, All, refl, sym, ap, subst, ◌∙◌, true≢false, arith}
+use Rattle.std.proofs.Common.{◌≡◌, ℕ, zero, suc, ◌<◌, ◌≤◌, ◌⊎◌, ⊎_elim, inl, inr, Bool, true, false, List, [], ◌∷◌, length, get_or, slice_get, slice_set, replicate, Some, refl, sym, ap, subst, ◌∙◌, true≢false, arith}
 use Rattle.std.proofs.lemmas.Option.{none-some, same_Some, slice_get_within}
 use Rattle.term_table.specs.ListLaws.{All-slice_get}
 use Rattle.formula_shape.specs.declared.shape_row.ShapeRow.{ShapeRow}
@@ -134,8 +134,8 @@ module _ (rows : List ShapeRow) (fit : (n : ℕ) (row : ShapeRow) → slice_get 
       let was : Marked marks i = ⊎_elim (λ (old : Marked marks i). old) (λ (p : (b ≡ true) × ((n : ℕ) × (slice_get there n ≡ Some i))). absurd (omega (arith, le, arg_below k p.1.0 i (get_or rows k (Var 0)) refl p.1.1))) (spread_from b there marks i has) in
       ⊎_elim
       (λ same. let row_is : get_or rows k (Var 0) ≡ row = same_row_at rows k row (subst (λ n. slice_get rows n ≡ Some row) (sym same) at) in
-          spread_true b there marks place a (subst (λ n. Marked marks n) (sym same) was) (subst (λ r. slice_get (args_of r) place ≡ Some a) (sym row_is) arg)
-          (omega (arith, long, same, arg_below k place a row row_is arg, slice_get_within rows i row at)))
+      spread_true b there marks place a (subst (λ n. Marked marks n) (sym same) was) (subst (λ r. slice_get (args_of r) place ≡ Some a) (sym row_is) arg)
+      (omega (arith, long, same, arg_below k place a row row_is arg, slice_get_within rows i row at)))
       (λ later. spread_keeps b there marks a (closed i row later at was place a arg))
       (here_or_later k i le)
 

@@ -1,26 +1,26 @@
 -- What an application of a definition makes of arguments that fit, fits.
-use Rattle.std.proofs.Common.{◌≡◌, ℕ, zero, suc, ◌+◌, ◌<◌, ◌≤◌, ◌⊎◌, ⊎_elim, inl, inr, Bool, true, false, List, [], ◌∷◌, ◌++◌, map, length, get_or, slice_get, Option, Some, None, option_map, All, refl, sym, ap, subst, ◌∙◌, true≢false, append-nil, append_assoc, length-append, arith}
-use Rattle.std.proofs.lemmas.Option.{none-some, same_Some, slice_get_within}
+use Rattle.std.proofs.Common.{◌≡◌, ℕ, zero, suc, ◌+◌, ◌<◌, ◌≤◌, ◌⊎◌, ⊎_elim, inl, inr, Bool, true, false, List, [], ◌∷◌, ◌++◌, map, length, get_or, slice_get, Some, None, All, refl, sym, ap, subst, ◌∙◌, true≢false, append-nil, append_assoc, length-append, arith}
+use Rattle.std.proofs.lemmas.Option.{none-some, same_Some}
 use Rattle.std.proofs.lemmas.List.Elements.{All-nil, All-cons, All-head, All-tail}
 use Rattle.smt_text.specs.declared.token.Place.{Place}
 use Rattle.formula_shape.specs.declared.shape_row.ShapeRow.{ShapeRow}
 use Rattle.formula_shape.specs.declared.shape_row.ShapeRow.TheVariants.{Var, App}
 use Rattle.formula_shape.specs.declared.shape_node.ShapeNode.{ShapeNode}
-use Rattle.formula_shape.specs.declared.shape_node.ShapeNode.TheVariants.{Equal, Atom, And, Or, Forall}
+use Rattle.formula_shape.specs.declared.shape_node.ShapeNode.TheVariants.{Equal, Atom, And, Or}
 use Rattle.formula_shape.specs.ShapeRow.{args_of}
 use Rattle.formula_shape.specs.ShapeNode.{parts_of}
-use Rattle.formula_shape.specs.Draft.{Draft, FitsRow}
+use Rattle.formula_shape.specs.Draft.{Draft}
 use Rattle.smt_names.specs.declared.value.Value.{Value}
 use Rattle.smt_names.specs.declared.value.Value.TheVariants.{Term, Formula}
 use Rattle.smt_names.specs.Value.{row_of}
-use Rattle.smt_names.specs.Making.{Making, made, row, node}
+use Rattle.smt_names.specs.Making.{row}
 use Rattle.smt_names.specs.Names.{Declared, Defined}
 use Rattle.smt_forms.specs.Moved.{moved_numbers, moved_row, moved_rows, moved_node, moved_nodes, moved_value, unfolded}
 use Rattle.shape_laws.specs.Sorted.{HasSort, HaveSorts, IsPlain, ArePlain}
 use Rattle.shape_laws.specs.Sorted.HasSort.{variable, application}
-use Rattle.shape_laws.specs.Sound.{Fits, IsWhole, IsFunction, IsDefinition, inside}
+use Rattle.shape_laws.specs.Sound.{Fits, IsFunction, IsDefinition, inside}
 use Rattle.shape_laws.proofs.Growing.{Extends, sort_stands, plain_stands}
-use Rattle.shape_laws.proofs.Making.{Setting, Sort, Sorts, Plain, Plains, Sound, Good, makes, refuses, sort_later, sorts_later, plain_later, good_then, good_made, good_as, good_row}
+use Rattle.shape_laws.proofs.Making.{Setting, Sort, Sorts, Plain, Plains, Sound, Good, sort_later, sorts_later, plain_later, good_then, good_made, good_as, good_row}
 use Rattle.shape_laws.proofs.Values.{PlainNode, good_plain, FitsIn}
 
 abbrev is_app : ShapeRow → Bool
@@ -114,7 +114,7 @@ module _ (s : Setting) (at : Place) (functions_are : (n : ℕ) (f : Declared) �
         let sorted = numbers_moved draft moved have (is.lawful.rows_fit (length moved) (App symbol xs) stands).args a.sorted in
         subst (λ k. Good s draft (λ new n. (sort : ℕ) → Inner (length moved) sort → Sort s new n sort) (row at (App k (moved_numbers moved xs)) draft)) (sym a.symbol_is)
         (good_as s draft (λ new n extends sort_is sort inner. subst (λ k. Sort s new n k) (same_sort a.place a.f a.symbol_is a.stands sort (applied_of (length moved) symbol xs sort stands inner)) sort_is)
-            (good_application s at draft sound a.place a.f (moved_numbers moved xs) a.stands (functions_are a.place a.f a.stands) sorted))
+        (good_application s at draft sound a.place a.f (moved_numbers moved xs) a.stands (functions_are a.place a.f a.stands) sorted))
       where
         same_sort : (place : ℕ) (f : Declared) → symbol ≡ place + 2 → slice_get s.functions place ≡ Some f → (sort : ℕ) → Applied s.functions d.parameters d.rows symbol xs sort → f.sort ≡ sort
         same_sort place f symbol_is stands_f sort b =
@@ -129,8 +129,8 @@ module _ (s : Setting) (at : Place) (functions_are : (n : ℕ) (f : Declared) �
         let stands = subst (λ k. slice_get d.rows k ≡ Some next) same (subst (λ rows. slice_get rows (length front) ≡ Some next) split (behind_front front next rest)) in
         good_then s draft _ (good_moved_row draft sound given moved have next stands) λ r new keeps extends is_so.
         good_moved_rows new keeps (sorts_later s draft new extends given) (moved ++ r ∷ [])
-            (λ k within sort inner. ⊎_elim (λ p. subst (λ m. Sort s new m sort) (sym p.1) (sort_later s draft new extends (have k p.0 sort inner))) (λ p. subst (λ m. Sort s new m sort) (sym p.1) (is_so sort (subst (λ m. Inner m sort) p.0 inner))) (pushed_at moved r k within))
-            (front ++ next ∷ []) rest (omega (arith, same, length-append front (next ∷ []), length-append moved (r ∷ []))) (append_assoc front (next ∷ []) rest ∙ split)
+        (λ k within sort inner. ⊎_elim (λ p. subst (λ m. Sort s new m sort) (sym p.1) (sort_later s draft new extends (have k p.0 sort inner))) (λ p. subst (λ m. Sort s new m sort) (sym p.1) (is_so sort (subst (λ m. Inner m sort) p.0 inner))) (pushed_at moved r k within))
+        (front ++ next ∷ []) rest (omega (arith, same, length-append front (next ∷ []), length-append moved (r ∷ []))) (append_assoc front (next ∷ []) rest ∙ split)
 
   -- the nodes so far have become these
   abbrev NodesMoved : Draft → List ℕ → Type 0
@@ -166,8 +166,8 @@ module _ (s : Setting) (at : Place) (functions_are : (n : ℕ) (f : Declared) �
         let is_node = node_moved draft have moved nodes next stands (is.lawful.nodes_fit (length moved) next stands).parts_stand (is.whole.nodes_plain (length moved) next stands) in
         good_then s draft _ (good_plain s draft at sound (moved_node rows moved next) is_node) λ n new keeps extends is_so.
         good_moved_nodes new keeps (rows_later draft new extends rows have) (moved ++ n ∷ [])
-            (λ k within inner. ⊎_elim (λ p. subst (λ m. Plain s new m) (sym p.1) (plain_later s draft new extends (nodes k p.0 inner))) (λ p. subst (λ m. Plain s new m) (sym p.1) is_so) (pushed_at moved n k within))
-            (front ++ next ∷ []) rest (omega (arith, same, length-append front (next ∷ []), length-append moved (n ∷ []))) (append_assoc front (next ∷ []) rest ∙ split)
+        (λ k within inner. ⊎_elim (λ p. subst (λ m. Plain s new m) (sym p.1) (plain_later s draft new extends (nodes k p.0 inner))) (λ p. subst (λ m. Plain s new m) (sym p.1) is_so) (pushed_at moved n k within))
+        (front ++ next ∷ []) rest (omega (arith, same, length-append front (next ∷ []), length-append moved (n ∷ []))) (append_assoc front (next ∷ []) rest ∙ split)
 
   pub good_unfolded : (draft : Draft) → Sound s draft → (args : List Value) → Sorts s draft (map row_of args) d.parameters → Good s draft (λ new v. FitsIn s new v) (unfolded at d args draft)
   good_unfolded draft sound args given =

@@ -1,5 +1,5 @@
 -- What is reached from a formula.
-use Rattle.std.proofs.Common.{◌≡◌, ℕ, ◌<◌, List, [], ◌∷◌, length, slice_get, Option, Some, None, Contains, All, refl, sym, ap, subst, ◌∙◌, zero, suc, ◌+◌, Bool, true, false, true≢false, arith}
+use Rattle.std.proofs.Common.{◌≡◌, ℕ, List, [], ◌∷◌, slice_get, Some, Contains, refl, sym, ap, subst, ◌∙◌, zero, suc, ◌+◌, Bool, true, false, true≢false}
 use Rattle.std.proofs.lemmas.Option.{none-some, same_Some}
 use Rattle.term_table.specs.ListLaws.{place_from_Contains}
 use Rattle.formula_shape.specs.declared.shape_row.ShapeRow.{ShapeRow}
@@ -8,7 +8,7 @@ use Rattle.formula_shape.specs.declared.shape_node.ShapeNode.{ShapeNode}
 use Rattle.formula_shape.specs.declared.shape_node.ShapeNode.TheVariants.{Equal, Atom, And, Or, Forall}
 use Rattle.formula_shape.specs.declared.shape_forall.ShapeForall.{ShapeForall}
 use Rattle.formula_shape.specs.ShapeRow.{args_of}
-use Rattle.formula_shape.specs.ShapeNode.{rows_of, parts_of, foralls_of}
+use Rattle.formula_shape.specs.ShapeNode.{rows_of, parts_of}
 use Rattle.formula_shape.specs.Reach.{ReachesNode, ReachesRow}
 use Rattle.formula_shape.specs.Reach.ReachesNode.{itself, part_of_it}
 use Rattle.formula_shape.specs.Reach.ReachesRow.{named, argument}

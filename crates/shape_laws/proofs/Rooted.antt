@@ -1,16 +1,13 @@
 -- Roots of triggers, and what a valid trigger is made of.
-use Rattle.std.proofs.Common.{◌≡◌, ℕ, zero, suc, ◌+◌, ◌<◌, ◌≤◌, Bool, true, false, List, [], ◌∷◌, ◌++◌, map, length, get_or, slice_get, sum_by, Option, Some, None, All, refl, sym, ap, subst, ◌∙◌, length-append, append_assoc, append-nil, arith}
-use Rattle.std.proofs.lemmas.Option.{none-some, same_Some, slice_get_within}
-use Rattle.term_table.specs.ListLaws.{slice_get-append_left}
-use Rattle.term_table.specs.declared.trigger.Trigger.{Trigger}
+use Rattle.std.proofs.Common.{◌≡◌, ℕ, zero, suc, ◌+◌, ◌<◌, ◌≤◌, true, List, [], ◌∷◌, ◌++◌, length, get_or, slice_get, sum_by, Some, refl, sym, ap, ◌∙◌, length-append, append_assoc, append-nil, arith}
 use Rattle.term_table.specs.Trigger.{IsValid}
 use Rattle.formula_shape.specs.declared.shape_row.ShapeRow.{ShapeRow}
-use Rattle.formula_shape.specs.declared.shape_row.ShapeRow.TheVariants.{Var, App}
+use Rattle.formula_shape.specs.declared.shape_row.ShapeRow.TheVariants.{App}
 use Rattle.formula_shape.specs.ShapeRow.{args_of}
-use Rattle.formula_shape.specs.Draft.{Draft, IsDraft, FitsRow}
+use Rattle.formula_shape.specs.Draft.{Draft, IsDraft}
 use Rattle.smt_names.specs.Names.{Declared}
 use Rattle.shape_patterns.specs.Patterns.{sizes_after, size_of, trigger_of, occurs}
-use Rattle.shape_laws.specs.Sorted.{HasSort}
+use Rattle.shape_laws.specs.Sorted.{HasSort, IsSortedTrigger}
 use Rattle.shape_laws.proofs.Values.{Each}
 
 -- the size of a row by those of the rows before it
@@ -51,9 +48,9 @@ pub record IsRoot (functions : List Declared) (variables : List ℕ) (rows : Lis
   pub sorted : HasSort functions variables rows r sort
   pub small : size_of rows r ≤ 256
 
--- triggers of roots are valid
+-- triggers of roots are valid, and their rows have sorts
 abbrev pub MakesValid : Type 0
 MakesValid = (functions : List Declared) (variables : List ℕ) (draft : Draft) → IsDraft draft → (roots : List ℕ) → Each (IsRoot functions variables draft.rows) roots
     → 1 ≤ length roots → length roots ≤ 16 → length variables ≤ 32
     → ((index : ℕ) → index < length variables → occurs (trigger_of (length variables) draft.rows roots) index ≡ true)
-    → IsValid (trigger_of (length variables) draft.rows roots)
+    → IsValid (trigger_of (length variables) draft.rows roots) × IsSortedTrigger functions variables (trigger_of (length variables) draft.rows roots)

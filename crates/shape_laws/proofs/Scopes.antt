@@ -1,5 +1,5 @@
 -- What names, tokens and the forms that bind make, fits.
-use Rattle.std.proofs.Common.{◌≡◌, ℕ, ◌+◌, ◌<◌, ◌≤◌, bytes_eq, Bool, true, false, cond, not, ◌&&◌, ◌||◌, ◌==◌, List, [], ◌∷◌, ◌++◌, length, slice_get, Option, Some, None, is_some, All, refl, sym, ap, subst, ◌∙◌, true≢false, arith}
+use Rattle.std.proofs.Common.{◌≡◌, ℕ, ◌+◌, ◌<◌, ◌≤◌, bytes_eq, Bool, true, false, cond, not, ◌||◌, ◌==◌, List, [], ◌∷◌, ◌++◌, length, slice_get, Option, Some, None, All, refl, sym, subst, ◌∙◌, true≢false, arith}
 use Rattle.std.proofs.lemmas.Option.{none-some, same_Some}
 use Rattle.std.proofs.lemmas.List.Elements.{All-nil, All-cons, All-head, All-tail, All-append, All-weaker}
 use Rattle.term_table.specs.ListLaws.{All-slice_get}
@@ -19,17 +19,17 @@ use Rattle.smt_names.specs.declared.head.Head.{Head}
 use Rattle.smt_names.specs.declared.head.Head.TheVariants as head
 use Rattle.smt_names.specs.declared.refusal.Refusal.TheVariants as refusal
 use Rattle.smt_names.specs.Value.{sort_of}
-use Rattle.smt_names.specs.Making.{Making, made, want, row, bad_form, not_in_profile, refuse_named}
-use Rattle.smt_names.specs.Names.{State, Scope, Declared, Defined, Named, Core, Function, Definition, Unknown, named, named_by, function_of, definition_of, head_of, keep_last, last_with, bound_as, is_reserved}
-use Rattle.smt_terms.specs.Meant.{Meaning, Meant, End, Token, Group, from, first_place, exactly, Listed, some_bindings, attributes_of}
-use Rattle.smt_terms.specs.Terms.{stood_for, free_value, name_value, token_value, value, add_value, values, truth, bind, add_bound, bound_values, let_value, annotated_value}
+use Rattle.smt_names.specs.Making.{Making, row, bad_form, not_in_profile, refuse_named}
+use Rattle.smt_names.specs.Names.{Scope, Declared, Defined, Named, named_by, function_of, definition_of, head_of, keep_last, last_with, bound_as, is_reserved}
+use Rattle.smt_terms.specs.Meant.{Meaning, Meant, End, Token, Group, from, first_place}
+use Rattle.smt_terms.specs.Terms.{stood_for, free_value, name_value, token_value, value, add_value, values, truth, bind, bound_values, let_value, annotated_value}
 use Rattle.shape_laws.specs.Sorted.HasSort.{variable}
-use Rattle.shape_laws.specs.Sound.{Fits, IsFunction, IsDefinition, AreDeclared, Stood, may_hold, IsScope}
+use Rattle.shape_laws.specs.Sound.{Stood, may_hold, IsScope}
 use Rattle.shape_laws.proofs.Growing.{Extends}
-use Rattle.shape_laws.proofs.Making.{Setting, Sort, Sound, Good, makes, refuses, good_then, good_made, good_want, good_as, good_row}
-use Rattle.shape_laws.proofs.Values.{FitsIn, fits_later, Each, none, more, each_map}
+use Rattle.shape_laws.proofs.Making.{Setting, Sound, Good, refuses, good_then, good_made, good_want, good_row}
+use Rattle.shape_laws.proofs.Values.{FitsIn, fits_later, Each, none, more}
 use Rattle.shape_laws.proofs.Applying.{eq_from, IsNamed, of_core, of_function, of_definition, of_none, FitsArg, good_applied}
-use Rattle.shape_laws.proofs.Checks.{AllMean, end, token, group, from_mean, passes_exactly, passes_attributes_of, good_some_bindings}
+use Rattle.shape_laws.proofs.Checks.{AllMean, token, group, from_mean, passes_exactly, passes_attributes_of, good_some_bindings}
 
 -- in a definition no formula may hold a forall
 pub definitions_hold_none : (a b : Bool) → b ≡ true → not (a || b) ≡ true → ⊥

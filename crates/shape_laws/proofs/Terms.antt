@@ -1,18 +1,18 @@
 -- What each tree of a command means, fits.
-use Rattle.std.proofs.Common.{◌≡◌, ℕ, Bool, true, false, cond, List, [], ◌∷◌, length, slice_get, Option, Some, None, refl, sym, ap, subst, ◌∙◌}
+use Rattle.std.proofs.Common.{ℕ, Bool, true, false, cond, List, Option, Some, None}
 use Rattle.smt_text.specs.Word.{Word}
 use Rattle.smt_text.specs.Trees as trees
 use Rattle.smt_text.specs.declared.token.Place.{Place}
 use Rattle.formula_shape.specs.Draft.{Draft}
 use Rattle.smt_names.specs.declared.bound.Bound.{Bound}
-use Rattle.smt_names.specs.Making.{Making, bad_form}
-use Rattle.smt_names.specs.Names.{State, Scope, Named, Core, Function, Definition, Unknown, named, head_of, bound_as, is_symbol}
+use Rattle.smt_names.specs.Making.{bad_form}
+use Rattle.smt_names.specs.Names.{Scope, Named, head_of, bound_as, is_symbol}
 use Rattle.smt_terms.specs.declared.form.Form.{Form}
 use Rattle.smt_terms.specs.declared.form.Form.TheVariants.{Let, Annotated, Universal, Foreign, Application}
-use Rattle.smt_terms.specs.Meant.{Meaning, Meant, End, Token, Group}
-use Rattle.smt_terms.specs.Terms.{named_value, unbound_value, form_of, form_value, list_value, group_meant, meant}
+use Rattle.smt_terms.specs.Meant.{Meant, End, Token, Group}
+use Rattle.smt_terms.specs.Terms.{named_value, unbound_value, form_of, form_value, list_value, meant}
 use Rattle.shape_laws.specs.Sound.{IsScope}
-use Rattle.shape_laws.proofs.Making.{Setting, Sound, Good, makes, refuses, good_then}
+use Rattle.shape_laws.proofs.Making.{Sound, Good, refuses, good_then}
 use Rattle.shape_laws.proofs.Values.{FitsIn}
 use Rattle.shape_laws.proofs.Applying.{IsNamed, of_core, of_function, of_definition, of_none, good_applied}
 use Rattle.shape_laws.proofs.Checks.{AllMean, end, token, group}

@@ -1,6 +1,5 @@
 -- Triggers of roots are valid.
-use Rattle.std.proofs.Common.{◌≡◌, ℕ, zero, suc, ◌+◌, ◌<◌, ◌≤◌, ◌⊎◌, ⊎_elim, inl, inr, Bool, true, false, ◌==◌, List, [], ◌∷◌, ◌++◌, map, length, get_or, slice_get, sum_by, Option, Some, None, option_map, All, Contains, refl, sym, ap, ap₂, subst, ◌∙◌, true≢false, append-nil, append_assoc, length-append, arith}
-use Rattle.std.specs.List.{list_any, Any}
+use Rattle.std.proofs.Common.{◌≡◌, ℕ, zero, suc, ◌+◌, ◌<◌, ◌≤◌, ◌⊎◌, ⊎_elim, inl, inr, Bool, true, false, List, [], ◌∷◌, ◌++◌, map, length, get_or, slice_get, sum_by, Some, option_map, All, refl, sym, ap, ap₂, subst, ◌∙◌, true≢false, length-append, arith}
 use Rattle.std.proofs.lemmas.Option.{none-some, same_Some, slice_get_within, slice_get-map, slice_get-get_or}
 use Rattle.std.proofs.lemmas.List.{length-map}
 use Rattle.std.proofs.lemmas.List.Sums.{sum_by-cons}
@@ -18,10 +17,11 @@ use Rattle.formula_shape.specs.ShapeRow.{args_of}
 use Rattle.formula_shape.specs.Draft.{Draft, IsDraft, FitsRow}
 use Rattle.smt_names.specs.Names.{Declared}
 use Rattle.shape_patterns.specs.Patterns.{sizes_after, size_of, reached_from, Kept, numbered, renumbered, kept_after, trigger_of, is_variable, occurs}
-use Rattle.shape_laws.specs.Sorted.{HasSort, HaveSorts}
+use Rattle.shape_laws.specs.Sorted.{HasSort, HaveSorts, as_row, IsSortedTrigger}
+use Rattle.shape_laws.specs.Sorted.HasSort.{variable, application}
 use Rattle.shape_laws.proofs.Growing.{sort_stands}
 use Rattle.shape_laws.proofs.Values.{Each, none, more}
-use Rattle.shape_laws.proofs.Moving.{behind_front, variable_of, applied_of, sorts_at}
+use Rattle.shape_laws.proofs.Moving.{variable_of, applied_of}
 use Rattle.shape_laws.proofs.Applying.{eq_from}
 use Rattle.shape_laws.proofs.Rooted.{size_by, sizes_apart, sizes_length, sizes_keep, get_front, size_later, IsRoot, MakesValid}
 use Rattle.shape_laws.proofs.Marks.{Marked, From, root, part, roots_marked, args_marked, marked_reached}
@@ -155,8 +155,14 @@ module _ (functions : List Declared) (variables : List ℕ) (draft : Draft) (dra
   origin_of p x stands =
       let o = so.origin p (slice_get_within kept.rows p x stands) in
       let row = element_at rows o.0 o.1 in
-      record { i = o.0; row = row.0; at = row.1; has = o.2; number_is = o.3;
-          same = same_Some (renumbered numbers row.0) x (sym (so.placed o.0 row.0 o.1 row.1 o.2) ∙ ap (slice_get kept.rows) o.3 ∙ stands) }
+      record {
+        i = o.0;
+        row = row.0;
+        at = row.1;
+        has = o.2;
+        number_is = o.3;
+        same = same_Some (renumbered numbers row.0) x (sym (so.placed o.0 row.0 o.1 row.1 o.2) ∙ ap (slice_get kept.rows) o.3 ∙ stands);
+      }
 
   placed : (i : ℕ) (row : ShapeRow) → slice_get rows i ≡ Some row → Marked marks i → slice_get kept.rows (number i) ≡ Some (renumbered numbers row)
   placed i row at has = so.placed i row (slice_get_within rows i row at) at has
@@ -181,7 +187,7 @@ module _ (functions : List Declared) (variables : List ℕ) (draft : Draft) (dra
   row_once i j (App f xs) other at_i at_j has_i has_j same =
       let o = app_from numbers other f (numbered numbers xs) (sym same) in
       ap (App f) (numbered_once xs o.0 (λ k x arg. args_marked rows fit roots i (App f xs) at_i has_i k x arg)
-          (λ k y arg. args_marked rows fit roots j (App f o.0) (at_j ∙ ap Some o.1) has_j k y arg) (sym o.2)) ∙ sym o.1
+      (λ k y arg. args_marked rows fit roots j (App f o.0) (at_j ∙ ap Some o.1) has_j k y arg) (sym o.2)) ∙ sym o.1
 
   -- paths lead to all rows
   occurs_at : {i : ℕ} → From rows roots i → (start : ℕ) × (path : List ℕ) × Occurs t start path (number i)
@@ -231,9 +237,9 @@ module _ (functions : List Declared) (variables : List ℕ) (draft : Draft) (dra
         let o = origin_of p (pattern.App symbol parts) at in
         let app = app_from numbers o.row symbol parts o.same in
         subst (All (λ q. q < p)) app.2 (All-map (λ q. q < p) number app.0 (all_from (λ a. number a < p) app.0 (λ k a arg.
-            let here = o.at ∙ ap Some app.1 in
-            let less = All-slice_get (λ x. x < o.i) app.0 k a (fit o.i (App symbol app.0) here).args arg in
-            omega (arith, so.rising a o.i less (marked_within o.i o.has) (args_marked rows fit roots o.i (App symbol app.0) here o.has k a arg) o.has, o.number_is))));
+        let here = o.at ∙ ap Some app.1 in
+        let less = All-slice_get (λ x. x < o.i) app.0 k a (fit o.i (App symbol app.0) here).args arg in
+        omega (arith, so.rising a o.i less (marked_within o.i o.has) (args_marked rows fit roots o.i (App symbol app.0) here o.has k a arg) o.has, o.number_is))));
     few_parts = λ p symbol parts at.
         let o = origin_of p (pattern.App symbol parts) at in
         let app = app_from numbers o.row symbol parts o.same in
@@ -266,6 +272,24 @@ module _ (functions : List Declared) (variables : List ℕ) (draft : Draft) (dra
     occur = λ index within. variable_stands index (occur index within);
   }
 
--- triggers of roots are valid
+  mutual
+    -- a row of the trigger has the sort of the row that it comes from
+    number_sorted : {i sort : ℕ} → HasSort functions variables rows i sort → Marked marks i → HasSort functions variables (map as_row kept.rows) (number i) sort
+    number_sorted (variable {row = i} {index = index} at is) has = variable (slice_get-map as_row kept.rows (number i) ∙ ap (option_map as_row) (placed i (Var index) at has)) is
+    number_sorted (application place {row = i} {args = args} at is sorted) has =
+        application place (slice_get-map as_row kept.rows (number i) ∙ ap (option_map as_row) (placed i (App (place + 2) args) at has)) is
+        (numbers_sorted sorted (λ k x arg. args_marked rows fit roots i (App (place + 2) args) at has k x arg))
+
+    numbers_sorted : {args sorts : List ℕ} → HaveSorts functions variables rows args sorts → ((k x : ℕ) → slice_get args k ≡ Some x → Marked marks x) → HaveSorts functions variables (map as_row kept.rows) (numbered numbers args) sorts
+    numbers_sorted HaveSorts.none marked = HaveSorts.none
+    numbers_sorted (HaveSorts.more {row = a} first rest) marked = HaveSorts.more (number_sorted first (marked 0 a refl)) (numbers_sorted rest (λ k. marked (suc k)))
+
+  sorted_of : IsSortedTrigger functions variables t
+  sorted_of p within =
+      let o = so.origin p within in
+      let had = reached_has (marked_reached rows fit roots o.0 o.2) in
+      (had.0, subst (λ q. HasSort functions variables (map as_row kept.rows) q had.0) o.3 (number_sorted had.1 o.2))
+
+-- triggers of roots are valid, and their rows have sorts
 pub makes_valid : MakesValid
-makes_valid functions variables draft draft_is roots are some most few occur = valid_of functions variables draft draft_is roots are some most few occur
+makes_valid functions variables draft draft_is roots are some most few occur = (valid_of functions variables draft draft_is roots are some most few occur, sorted_of functions variables draft draft_is roots are)

@@ -1,6 +1,5 @@
 -- Nodes that may be put, and values that fit.
-use Rattle.std.proofs.Common.{◌≡◌, ℕ, ◌<◌, ◌≤◌, Bool, true, false, List, [], ◌∷◌, ◌++◌, map, length, slice_get, Option, Some, None, is_some, unwrap_or, All, refl, sym, ap, subst, ◌∙◌, true≢false, arith}
-use Rattle.std.proofs.lemmas.Option.{none-some, same_Some}
+use Rattle.std.proofs.Common.{◌≡◌, ℕ, ◌<◌, ◌≤◌, true, false, List, [], ◌∷◌, ◌++◌, length, slice_get, Option, Some, None, All, refl, sym, subst, true≢false, arith}
 use Rattle.std.proofs.lemmas.List.Elements.{All-nil, All-cons}
 use Rattle.smt_text.specs.declared.token.Place.{Place}
 use Rattle.formula_shape.specs.declared.shape_node.ShapeNode.{ShapeNode}
@@ -8,13 +7,13 @@ use Rattle.formula_shape.specs.declared.shape_node.ShapeNode.TheVariants.{Equal,
 use Rattle.formula_shape.specs.Draft.{Draft, FitsNode}
 use Rattle.smt_names.specs.declared.value.Value.{Value}
 use Rattle.smt_names.specs.declared.value.Value.TheVariants.{Term, Formula}
-use Rattle.smt_names.specs.Value.{sort_of, row_of, self, complement, has_complement, other, swapped}
-use Rattle.smt_names.specs.Making.{made, node, node_if}
+use Rattle.smt_names.specs.Value.{sort_of, row_of, self, has_complement, other, swapped}
+use Rattle.smt_names.specs.Making.{node}
 use Rattle.smt_forms.specs.Nodes.{both}
-use Rattle.shape_laws.specs.Sorted.{HasSort, HaveSorts, IsPlain, ArePlain, IsTruth, AreTruths}
+use Rattle.shape_laws.specs.Sorted.{IsPlain, ArePlain, IsTruth, AreTruths}
 use Rattle.shape_laws.specs.Sound.{Fits}
 use Rattle.shape_laws.proofs.Growing.{Extends, sort_stands, plain_stands, truth_stands}
-use Rattle.shape_laws.proofs.Making.{Setting, Sort, Sorts, Plain, Plains, Truth, Truths, Sound, Good, makes, refuses, sort_later, sorts_later, plain_later, plains_later, truth_later, truths_later, good_then, good_made, good_node, good_as}
+use Rattle.shape_laws.proofs.Making.{Setting, Sort, Plain, Plains, Truth, Truths, Sound, Good, sort_later, plain_later, plains_later, truth_later, truths_later, good_then, good_made, good_node}
 
 -- a plain node over what stands
 abbrev pub PlainNode : Setting → Draft → ShapeNode → Type 0
@@ -152,8 +151,8 @@ module _ (s : Setting) (at : Place) where
   pub good_both : (draft : Draft) → Sound s draft → (itself against : ShapeNode) → PlainNode s draft itself → PlainNode s draft against → Good s draft (λ d v. Twofold s d v) (both at itself (Some against) draft)
   good_both draft sound itself against is other_is =
       good_then s draft _ (good_plain s draft at sound itself is) λ n new keeps extends first.
-          good_then s new _ (good_then s new {Q = λ d c. SomePlain s d c} _ (good_plain s new at keeps against (plain_node_later s draft new extends against other_is)) λ m last keeps' extends' second. good_made s last (Some m) keeps' second)
-          λ c last keeps' extends' second. good_made s last (Formula n c) keeps' (both_fit last n c (plain_later s new last extends' first) second)
+      good_then s new _ (good_then s new {Q = λ d c. SomePlain s d c} _ (good_plain s new at keeps against (plain_node_later s draft new extends against other_is)) λ m last keeps' extends' second. good_made s last (Some m) keeps' second)
+      λ c last keeps' extends' second. good_made s last (Formula n c) keeps' (both_fit last n c (plain_later s new last extends' first) second)
 
   -- a formula without a complement
   pub good_alone : (draft : Draft) → Sound s draft → (itself : ShapeNode) → TruthNode s draft itself → s.universal ≡ true → Good s draft (λ d v. FitsIn s d v) (both at itself None draft)

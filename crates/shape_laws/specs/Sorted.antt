@@ -1,5 +1,8 @@
 -- Which sorts rows have, and which nodes are formulas.
-use Rattle.std.specs.Prelude.{◌≡◌, ℕ, ◌+◌, Bool, List, [], ◌∷◌, length, slice_get, Some}
+use Rattle.std.specs.Prelude.{◌≡◌, ℕ, ◌+◌, ◌<◌, Bool, List, [], ◌∷◌, map, length, slice_get, Some, All}
+use Rattle.term_table.specs.declared.pattern_row.PatternRow.{PatternRow}
+use Rattle.term_table.specs.declared.pattern_row.PatternRow.TheVariants as pattern
+use Rattle.term_table.specs.declared.trigger.Trigger.{Trigger}
 use Rattle.formula_shape.specs.declared.shape_row.ShapeRow.{ShapeRow}
 use Rattle.formula_shape.specs.declared.shape_row.ShapeRow.TheVariants.{Var, App}
 use Rattle.formula_shape.specs.declared.shape_node.ShapeNode.{ShapeNode}
@@ -30,11 +33,21 @@ mutual
     none : ArePlain functions variables rows nodes []
     more : {n : ℕ} {others : List ℕ} → IsPlain functions variables rows nodes n → ArePlain functions variables rows nodes others → ArePlain functions variables rows nodes (n ∷ others)
 
--- The variables of a forall have sorts by which its body is a formula that holds no forall.
+-- the row of a pattern, as a row of a shape
+abbrev pub as_row : PatternRow → ShapeRow
+as_row (pattern.Var index) = Var index
+as_row (pattern.App symbol parts) = App symbol parts
+
+-- each row of the trigger has a sort
+abbrev pub IsSortedTrigger : List Declared → List ℕ → Trigger → Type 0
+IsSortedTrigger functions variables trigger = (row : ℕ) → row < length trigger.rows → (sort : ℕ) × HasSort functions variables (map as_row trigger.rows) row sort
+
+-- The variables of a forall have sorts by which its body is a formula that holds no forall, and the rows of its triggers have sorts.
 pub record IsSorted (functions : List Declared) (rows : List ShapeRow) (nodes : List ShapeNode) (forall : ShapeForall) : Type 0 where
   pub sorts : List ℕ
   pub count : length sorts ≡ forall.variables
   pub body : IsPlain functions sorts rows nodes forall.body
+  pub triggers : All (IsSortedTrigger functions sorts) forall.triggers
 
 mutual
   -- The node is a formula: a plain one, or a forall, or And and Or of formulas.

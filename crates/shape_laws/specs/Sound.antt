@@ -1,5 +1,5 @@
 -- What is kept while terms are elaborated.
-use Rattle.std.specs.Prelude.{◌≡◌, ℕ, ◌<◌, ◌≤◌, Bool, true, false, not, ◌||◌, List, [], length, take, slice_get, Option, Some, None, All}
+use Rattle.std.specs.Prelude.{◌≡◌, ℕ, ◌≤◌, Bool, true, false, not, ◌||◌, List, [], length, slice_get, Some, None, All}
 use Rattle.formula_shape.specs.declared.shape_row.ShapeRow.{ShapeRow}
 use Rattle.formula_shape.specs.declared.shape_node.ShapeNode.{ShapeNode}
 use Rattle.formula_shape.specs.Draft.{Draft, AreLawful}
@@ -8,9 +8,7 @@ use Rattle.smt_names.specs.declared.value.Value.TheVariants.{Term, Formula}
 use Rattle.smt_names.specs.declared.bound.Bound.{Bound}
 use Rattle.smt_names.specs.declared.stands.Stands.{Stands}
 use Rattle.smt_names.specs.declared.stands.Stands.TheVariants.{Given, Variable}
-use Rattle.smt_names.specs.Value.{sort_of}
-use Rattle.smt_names.specs.Names.{State, Scope, Declared, Defined}
-use Rattle.smt_names.specs.declared.level.Level.{Level}
+use Rattle.smt_names.specs.Names.{Scope, Declared, Defined}
 use Rattle.shape_laws.specs.Sorted.{HasSort, IsPlain, IsTruth}
 
 -- The value of a term or a formula stands in the draft: a term has its sort, which is not Bool; a formula and its complement hold no
@@ -62,10 +60,3 @@ pub record IsScope (variables : List ℕ) (draft : Draft) (scope : Scope) : Type
   pub others : All (λ sort. 1 ≤ sort) variables
   pub outside : may_hold scope ≡ true → variables ≡ []
   pub bound : All (λ (b : Bound). Stood scope.state.functions variables (not scope.in_definition) draft b.stands) scope.bound
-
--- the names of a state are right now, and were when each level was opened, which an earlier level was before
-pub record IsState (state : State) : Type 0 where
-  pub declared : AreDeclared state.functions state.definitions
-  pub before : (n : ℕ) (level : Level) → slice_get state.levels n ≡ Some level → AreDeclared (take level.functions state.functions) (take level.definitions state.definitions)
-  pub within : (n : ℕ) (level : Level) → slice_get state.levels n ≡ Some level → level.functions ≤ length state.functions × level.definitions ≤ length state.definitions
-  pub rising : (m n : ℕ) (level later : Level) → m ≤ n → slice_get state.levels m ≡ Some level → slice_get state.levels n ≡ Some later → level.functions ≤ later.functions × level.definitions ≤ later.definitions
