@@ -5,16 +5,15 @@ use Rattle.term_table.specs.Standing.{terms_of}
 use Rattle.term_table.specs.State.{GraphState}
 use Rattle.formula_shape.specs.Draft.{Formula, IsFormula}
 use Rattle.formula_table.specs.Entry.{Enters}
-use Rattle.formula_table.specs.Formulas.{Formulas, GrowsTable}
+use Rattle.formula_table.specs.StandLaws.{stands_after}
+use Rattle.formula_table.specs.Formulas.{Formulas, GrowsTable, NodesStand}
 use Rattle.assertion_stack.specs.declared.level.Level.{Level}
 use Rattle.assertion_stack.specs.GraphTerms.{with_terms}
 use Rattle.assertion_stack.specs.GraphTermsLaws.{terms-with_terms}
 use Rattle.assertion_stack.specs.Held.{held}
 use Rattle.assertion_stack.specs.InLevel.{GrowsGraph, HoldsMore, KeepsLevels}
-use Rattle.assertion_stack.specs.Stands.{NodesStand}
 use Rattle.assertion_stack.specs.StackInside.{IsStackOf, assertions_with, saved_of}
-use Rattle.assertion_stack.proofs.EntryLemmas.{entered_stand, root_entered, NodesStand-more}
-use Rattle.assertion_stack.proofs.Growth.{grows_both, grows_terms, terms_longer}
+use Rattle.assertion_stack.proofs.Growth.{grows_both, grows_terms, terms_longer, NodesStand-more}
 use Rattle.assertion_stack.proofs.StackLemmas.{grows_entered, saved_same, stack_grown, stack_keeps}
 
 module _ (formula : Formula) (is : IsFormula formula) (graph entered : GraphState) (table grown : Formulas) (limit root : ℕ) (enters : Enters (λ more. entered ≡ with_terms graph more) formula (terms_of graph.standing) limit table grown root) (stand : NodesStand (length (terms_of graph.standing)) table.nodes) where
@@ -26,14 +25,14 @@ module _ (formula : Formula) (is : IsFormula formula) (graph entered : GraphStat
 
   -- the root stands
   pub entered_root : root < length grown.nodes
-  entered_root = root_entered formula is enters.terms table grown root enters.table_grows
+  entered_root = (stands_after (λ more. entered ≡ with_terms graph more) formula is (terms_of graph.standing) limit table grown root enters).root_stands
 
   -- the nodes are over terms that stand
   pub entered_over : NodesStand (length (terms_of entered.standing)) grown.nodes
   entered_over =
       let rows : terms_of entered.standing ≡ terms_of graph.standing ++ enters.rows_grow.added = ap (λ (g : GraphState). terms_of g.standing) enters.rows_grow.grew ∙ terms-with_terms graph enters.rows_grow.added in
       subst (λ (list : List TermRow). NodesStand (length list) grown.nodes) (sym rows)
-      (entered_stand formula is (terms_of graph.standing) limit enters.rows_grow.added enters.terms enters.rows_grow.enters enters.rows_grow.all table grown root enters.table_grows stand)
+      ((stands_after (λ more. entered ≡ with_terms graph more) formula is (terms_of graph.standing) limit table grown root enters).terms_stand stand)
 
   module _ (after : GraphState) (asserted kept : List ℕ) (levels : List Level) (more : HoldsMore (held entered asserted) (held after kept)) (stack : IsStackOf graph table asserted levels) where
     all_grows : GrowsGraph graph after

@@ -1,9 +1,9 @@
 -- Graphs that grow in a level.
-use Rattle.std.proofs.Common.{◌≡◌, ℕ, ◌+◌, ◌≤◌, cond, List, [], ◌∷◌, ◌++◌, length, map, All, refl, sym, ap, ◌∙◌, append_assoc, append-nil, arith}
+use Rattle.std.proofs.Common.{◌≡◌, ℕ, ◌+◌, ◌<◌, ◌≤◌, cond, List, [], ◌∷◌, ◌++◌, length, map, All, refl, sym, ap, ◌∙◌, append_assoc, append-nil, arith}
 use Rattle.std.specs.List.{before_last}
 use Rattle.std.proofs.lemmas.List.{length-append}
 use Rattle.std.proofs.lemmas.List.Sums.{sum_by-append}
-use Rattle.std.proofs.lemmas.List.Elements.{All-nil, All-cons, All-head, All-tail, All-append}
+use Rattle.std.proofs.lemmas.List.Elements.{All-nil, All-cons, All-head, All-tail, All-append, All-weaker}
 use Rattle.term_table.specs.declared.done.Done.{Done}
 use Rattle.term_table.specs.declared.term_row.TermRow.{TermRow}
 use Rattle.term_table.specs.declared.trigger.Trigger.{Trigger}
@@ -14,6 +14,9 @@ use Rattle.term_table.specs.ListLaws.{before_last-hit, before_last-miss}
 use Rattle.term_table.specs.ReplayLaws.{replay-append}
 use Rattle.term_table.specs.Standing.{is_push, levels_of, terms_of, rows_added, standing_after}
 use Rattle.term_table.specs.State.{GraphState, replay, state_after}
+use Rattle.formula_table.specs.declared.node.Node.{Node}
+use Rattle.formula_table.specs.Formulas.{NodesStand}
+use Rattle.formula_table.specs.Node.{terms_in}
 use Rattle.assertion_stack.specs.GraphTerms.{adding, with_terms}
 use Rattle.assertion_stack.specs.Held.{Held}
 use Rattle.assertion_stack.specs.InLevel.{IsInLevel, GrowsGraph, HoldsMore}
@@ -130,3 +133,7 @@ module _ (before after : GraphState) (grows : GrowsGraph before after) where
 
   pub limit_same : after.limit ≡ before.limit
   limit_same = ap (λ (g : GraphState). g.limit) grows.after_is ∙ limit_kept_by before grows.operations
+
+-- nodes over some terms are over more
+pub NodesStand-more : (terms more : ℕ) (nodes : List Node) → terms ≤ more → NodesStand terms nodes → NodesStand more nodes
+NodesStand-more terms more nodes le stand n node at = All-weaker (λ term. term < terms) (λ term. term < more) (λ term less. omega arith) (terms_in node) (stand n node at)

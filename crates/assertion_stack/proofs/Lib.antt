@@ -3,6 +3,6 @@ pub mod OnceLemmas
 pub mod WorkLemmas
 pub mod OperationLemmas
 pub mod EnteredTerms
-pub mod EntryLemmas
 pub mod StackLemmas
 pub mod AssertLemmas
+pub mod OneLemmas

@@ -16,9 +16,9 @@ use Rattle.term_table.specs.Standing.{terms_of}
 use Rattle.term_table.specs.State.{GraphState, replay, state_after}
 use Rattle.formula_table.specs.declared.node.Node.{Node}
 use Rattle.formula_table.specs.declared.node.Node.TheVariants.{Equal, Atom}
-use Rattle.formula_table.specs.Formulas.{Formulas, IsFormulaTable, HasTriggers}
+use Rattle.formula_table.specs.Formulas.{Formulas, IsFormulaTable, HasTriggers, NodesStand}
 use Rattle.assertion_stack.specs.InLevel.{IsInLevel, GrowsGraph}
-use Rattle.assertion_stack.specs.Stands.{NodesStand, terms_in}
+use Rattle.formula_table.specs.Node.{terms_in}
 use Rattle.assertion_stack.proofs.Growth.{grows_none, grows_by}
 
 all_live : (triggers : List Trigger) → All IsInLevel (map Live triggers)

@@ -17,15 +17,15 @@ use Rattle.term_table.specs.Standing.{is_push, levels_of, terms_of}
 use Rattle.formula_table.specs.declared.node.Node.{Node}
 use Rattle.formula_table.specs.declared.node.Node.TheVariants.{Forall}
 use Rattle.formula_table.specs.declared.table_forall.TableForall.{TableForall}
-use Rattle.formula_table.specs.Formulas.{Formulas, IsFormulaTable, GrowsTable, NamesFirst, first_formulas, no_formulas}
+use Rattle.formula_table.specs.Formulas.{Formulas, IsFormulaTable, GrowsTable, NamesFirst, NodesStand, first_formulas, no_formulas}
 use Rattle.assertion_stack.specs.declared.level.Level.{Level}
 use Rattle.assertion_stack.specs.Assertions.{Saved, Assertions, pushed, popped, restored}
 use Rattle.assertion_stack.specs.InLevel.{GrowsGraph, KeepsLevels, StandAlike}
-use Rattle.assertion_stack.specs.Stands.{IsTableOver, AreSaved, NodesStand}
+use Rattle.assertion_stack.specs.Stands.{IsTableOver, AreSaved}
 use Rattle.assertion_stack.specs.StackInside.{saved_of, Fall, IsStackOf, assertions_with}
 use Rattle.assertion_stack.specs.GraphTerms.{with_terms}
 use Rattle.assertion_stack.proofs.Growth.{levels_of-opened, before_last-opened, opened_longer, last_same, limit_same, levels_same, grows_terms, terms_longer}
-use Rattle.assertion_stack.proofs.EntryLemmas.{NodesStand-more}
+use Rattle.assertion_stack.proofs.Growth.{NodesStand-more}
 
 -- the levels of a graph are those for which formulas were saved
 pub saved_levels : (standing : List Done) (saved : List Saved) → AreSaved standing saved → levels_of standing ≡ length saved

@@ -2,11 +2,11 @@
 use Rattle.std.specs.Prelude.{ℕ, ◌<◌, ◌≤◌, ◌^◌, List, [], ◌∷◌, length, map, take, reverse}
 use Rattle.term_table.specs.Standing.{terms_of}
 use Rattle.term_table.specs.State.{GraphState}
-use Rattle.formula_table.specs.Formulas.{Formulas, first_formulas}
+use Rattle.formula_table.specs.Formulas.{Formulas, NodesStand, first_formulas}
 use Rattle.assertion_stack.specs.declared.level.Level.{Level}
 use Rattle.assertion_stack.specs.declared.assertion_stack.AssertionStack.TheInside.{Inside}
 use Rattle.assertion_stack.specs.Assertions.{Saved, Assertions}
-use Rattle.assertion_stack.specs.Stands.{NodesStand, AreSaved}
+use Rattle.assertion_stack.specs.Stands.{AreSaved}
 
 -- what stood when the level was opened, of what stands
 abbrev pub saved_of : Formulas → List ℕ → Level → Saved

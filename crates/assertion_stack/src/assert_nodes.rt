@@ -4,11 +4,10 @@ ghost use Rattle.term_table.specs.declared.op.Op.TheVariants.{Merge as MergeOp, 
 ghost use Rattle.term_table.specs.Trigger.{IsValid};
 ghost use Rattle.term_table.specs.State.{replay};
 ghost use Rattle.term_table.specs.Standing.{terms_of};
-ghost use Rattle.formula_table.specs.Formulas.{IsFormulaTable};
+ghost use Rattle.formula_table.specs.Formulas.{IsFormulaTable, NodesStand};
 ghost use Rattle.assertion_stack.specs.Held.{held, operations_of, conjuncts_of};
 ghost use Rattle.assertion_stack.specs.Asserts.{Asserts};
 ghost use Rattle.assertion_stack.specs.InLevel.{GrowsGraph, HoldsMore};
-ghost use Rattle.assertion_stack.specs.Stands.{NodesStand};
 ghost use Rattle.assertion_stack.specs.WorkList.{AssertsNext};
 
 use crate::asserted_nodes::AssertedNodes;

@@ -9,13 +9,13 @@ use crate::assert_nodes::assert_node;
 use crate::asserted_nodes::AssertedNodes;
 use crate::graph_terms::GraphTerms;
 use crate::level::Level;
-use congruence::Graph;
 use em_outside::Limits;
 use formula_shape::Shape;
 use formula_table::{EnterFault, FormulaTable};
+use matching_graph::MatchingGraph;
 use std::alloc::Global;
 use std::marker::Model;
-use term_table::{Memory, Op};
+use term_table::{ClassGraph, Memory, Op};
 
 /// The most levels that a count of levels can tell.
 const MOST_LEVELS: usize = 4_294_967_295;
@@ -65,11 +65,12 @@ impl AssertionStack {
         ensures rules { AreAssertions self.now }
     {
         let _nodes = self.formulas.len();
+        let _terms = self.terms.graph().len();
         self.levels.len() as u32
     }
 
     /// The graph of the terms.
-    pub fn graph(&self) -> &Graph
+    pub fn graph(&self) -> &MatchingGraph
         ensures { result.now ≡ self.now.graph }
     {
         self.terms.graph()

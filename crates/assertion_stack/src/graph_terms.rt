@@ -8,7 +8,7 @@ ghost use Rattle.term_table.specs.State.{first_state, state_after};
 ghost use Rattle.term_table.specs.declared.op.Op.TheVariants.{Pop as PopOp};
 ghost use Rattle.assertion_stack.specs.GraphTerms.{with_terms};
 
-use congruence::Graph;
+use matching_graph::MatchingGraph;
 use std::alloc::Global;
 use std::marker::Model;
 use term_table::{ClassGraph, Memory, Numbers, Op, TableFault, TermEntry};
@@ -17,7 +17,7 @@ use term_table::{ClassGraph, Memory, Numbers, Op, TableFault, TermEntry};
 #[derive(Drop)]
 pub(crate) struct GraphTerms {
     alloc: Global,
-    graph: Graph,
+    graph: MatchingGraph,
 }
 
 impl Model for GraphTerms {
@@ -29,7 +29,12 @@ impl Model for GraphTerms {
 }
 
 /// The term of the row, which is added last where it is new.
-fn add_row(alloc: Global, graph: &mut Graph, symbol: u32, args: &[u32]) -> Result<u32, TableFault>
+fn add_row(
+    alloc: Global,
+    graph: &mut MatchingGraph,
+    symbol: u32,
+    args: &[u32],
+) -> Result<u32, TableFault>
     requires terms { All (λ arg. arg < length (terms_of graph.old.standing)) args.now }
     requires few { length args.now ≤ 255 }
     ensures ok { IfOk result (λ term. AddGrows (terms_of graph.old.standing) graph.old.limit (terms_of graph.new.standing) (λ more. graph.new ≡ with_terms graph.old more) (term_row symbol args.now) term) }
@@ -51,12 +56,12 @@ impl GraphTerms {
         requires { 2 ≤ limit }
         ensures { IfOk result (λ terms. terms ≡ first_state limit) }
     {
-        let graph = Graph::new(alloc, limit)?;
+        let graph = MatchingGraph::new(alloc, limit)?;
         Ok(GraphTerms { alloc, graph })
     }
 
     /// The graph.
-    pub(crate) fn graph(&self) -> &Graph
+    pub(crate) fn graph(&self) -> &MatchingGraph
         ensures { result.now ≡ self.now }
     {
         &self.graph

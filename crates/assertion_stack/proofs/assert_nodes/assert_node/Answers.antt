@@ -2,7 +2,7 @@ use Rattle.std.proofs.Common.{◌≡◌, ℕ, ◌+◌, ◌<◌, [], ◌∷◌, �
 use Rattle.std.proofs.lemmas.List.{length-append, nil_from_length}
 use Rattle.term_table.specs.Standing.{terms_of}
 use Rattle.assertion_stack.specs.Held.{held}
-use Rattle.assertion_stack.proofs.EntryLemmas.{NodesStand-more}
+use Rattle.assertion_stack.proofs.Growth.{NodesStand-more}
 use Rattle.assertion_stack.proofs.Growth.{terms_longer, holds_both}
 use Rattle.assertion_stack.proofs.WorkLemmas.{way_begins, way_goes_on, way_ends, work_less, owed}
 use Rattle.assertion_stack.proofs.assert_nodes.assert_node.Goals as goal
