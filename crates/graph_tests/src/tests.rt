@@ -7,7 +7,7 @@ mod fact;
 mod pair;
 mod step;
 
-use congruence::Clash;
+use congruence::{Clash, Graph};
 use deed::Deed::{Add, Differ, Live, Merge, Pop, Push};
 use draw::draw_list;
 use fact::Fact::{Apart, Clashes, Depth, Equal, Fixed, Fresh, Led, Limit, NoClash, Terms, Version};
@@ -15,7 +15,7 @@ use pair::Pair;
 use std::alloc::Global;
 use std::process::Abort;
 use std::test::Fail;
-use std::thread::join;
+use std::thread::{Threads, join};
 use step::Step::{Call, Do, Falls, Find, Full, Mark, Refuse, See, Stands, TakeBack};
 use step::{Step, passes};
 use term_table::ClassGraph;
@@ -211,14 +211,26 @@ fn lists_of_operations_are_done_alike(rt: HostRuntime) -> Result<(), Fail> {
     Ok(())
 }
 
+/// The first clash and how many operations were done, each asked by a thread of its own.
+fn asked_at_once(rt: &impl Threads, graph: &Graph) -> (Option<Clash>, u64) {
+    join(rt, || graph.clash(), || graph.version())
+}
+
+/// Whether two threads find at the same time that the graphs answer each call alike.
+fn agree_at_once(rt: &impl Threads, pair: &Pair) -> bool {
+    let (one, other) = join(rt, || pair.agrees(), || pair.agrees());
+    one && other
+}
+
+const TWO_EQUAL: &[Step<'static>] = &[Do(Differ(4, 5)), Do(Merge(2, 3))];
+
 #[test]
 fn two_threads_read_one_graph(rt: HostRuntime) -> Result<(), Fail> {
     let alloc = rt.alloc();
     let mut pair = example(&rt, alloc)?;
-    run(&rt, alloc, &mut pair, &[Do(Differ(4, 5)), Do(Merge(2, 3))])?;
-    let (clash, version) = join(&rt, || pair.graph.clash(), || pair.graph.version());
-    assert_eq!(rt; (clash, version), (Some(Clash { left: 4, right: 5 }), 8));
-    let (one, other) = join(&rt, || pair.agrees(), || pair.agrees());
-    assert!(rt; one && other);
+    run(&rt, alloc, &mut pair, TWO_EQUAL)?;
+    let (clash, version) = asked_at_once(&rt, &pair.graph);
+    assert!(rt; clash == Some(Clash { left: 4, right: 5 }) && version == 8);
+    assert!(rt; agree_at_once(&rt, &pair));
     Ok(())
 }
