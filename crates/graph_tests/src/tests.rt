@@ -222,15 +222,25 @@ fn agree_at_once(rt: &impl Threads, pair: &Pair) -> bool {
     one && other
 }
 
+/// Whether two threads that read the graphs at the same time get each answer.
+fn read_at_once(rt: &impl Threads, pair: &Pair) -> bool {
+    let (clash, version) = asked_at_once(rt, &pair.graph);
+    let told = clash == Some(Clash { left: 4, right: 5 });
+    told && version == 8 && agree_at_once(rt, pair)
+}
+
 const TWO_EQUAL: &[Step<'static>] = &[Do(Differ(4, 5)), Do(Merge(2, 3))];
+
+/// The example where `f(a)` and `f(b)` are kept apart and `a` and `b` are equal.
+fn clashing(rt: &impl Abort, alloc: Global) -> Result<Pair, Fail> {
+    let mut pair = example(rt, alloc)?;
+    run(rt, alloc, &mut pair, TWO_EQUAL)?;
+    Ok(pair)
+}
 
 #[test]
 fn two_threads_read_one_graph(rt: HostRuntime) -> Result<(), Fail> {
-    let alloc = rt.alloc();
-    let mut pair = example(&rt, alloc)?;
-    run(&rt, alloc, &mut pair, TWO_EQUAL)?;
-    let (clash, version) = asked_at_once(&rt, &pair.graph);
-    assert!(rt; clash == Some(Clash { left: 4, right: 5 }) && version == 8);
-    assert!(rt; agree_at_once(&rt, &pair));
+    let pair = clashing(&rt, rt.alloc())?;
+    assert!(rt; read_at_once(&rt, &pair));
     Ok(())
 }
