@@ -33,6 +33,7 @@ none_in_order Becomes items limit = record {
   rising = λ i j d a b. absurd (omega (arith, b));
   count = refl;
   each = λ k n x thing. absurd (none-some n thing);
+  first = λ k m n x thing. absurd (none-some n thing);
   once = λ i j x at_i at_j behind. let within = slice_get_within (items ++ []) j x at_j in absurd (omega (arith, within, ap length (append-nil items)));
   room = inl refl;
 }
@@ -57,6 +58,7 @@ module _ {X : Type 0} (Becomes Later : ℕ → X → Type 0) (items : List X) (l
     rising = is.rising;
     count = is.count;
     each = λ k n x thing item. let was = is.each k n x thing item in (omega (arith, was.0), (same n x (omega (arith, was.0))).0 was.1);
+    first = λ k m n x thing item less later. let was = is.each k n x thing item in is.first k m n x thing item less ((same m x (omega (arith, was.0, less))).1 later);
     once = is.once;
     room = is.room;
   }
@@ -93,6 +95,18 @@ module _ {X : Type 0} (Becomes Later : ℕ → X → Type 0) (items : List X) (l
             (λ new_item.
             let below : n < before + 1 = omega (arith, fresh.1) in
             (below, (same n y below).0 (subst (λ (m : ℕ). Becomes m y) (sym fresh.1) (subst (λ (z : X). Becomes before z) (sym new_item.1) becomes))))
+            (push_cases added x k y item))
+            (push_cases is.things before k n thing);
+        first = λ k m n y thing item less later. ⊎_elim
+            (λ old. ⊎_elim
+            (λ old_item. let was = is.each k n y old old_item in is.first k m n y old old_item less ((same m y (omega (arith, was.0, less))).1 later))
+            (λ new_item. absurd (omega (arith, slice_get_within is.things k n old, is.count, new_item.0)))
+            (push_cases added x k y item))
+            (λ fresh. ⊎_elim
+            (λ old_item. absurd (omega (arith, slice_get_within added k y old_item, is.count, fresh.0)))
+            (λ new_item.
+            let lower : m < before = omega (arith, less, fresh.1) in
+            nowhere (slice_index numbers m) (is.stand m y lower ((same m y (omega (arith, lower))).1 later) ∙ ap Some new_item.1))
             (push_cases added x k y item))
             (push_cases is.things before k n thing);
         once = λ i j y at_i at_j behind.

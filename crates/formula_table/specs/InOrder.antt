@@ -7,13 +7,14 @@ module _ {X : Type 0} where
   StandsNowhere items x = (n : ℕ) → slice_get items n ≡ Some x → ⊥
 
   -- Each thing before a number stands among the items, at its own number. The items that were added for them are, in the
-  -- order of the things, those that stood nowhere, and there was room for them.
+  -- order of the things, those that stood nowhere, each put for the first thing that becomes it, and there was room for them.
   pub record AreInOrder (Becomes : ℕ → X → Type 0) (items : List X) (limit before : ℕ) (added : List X) (numbers : List ℕ) : Type 0 where
     pub stand : (n : ℕ) (x : X) → n < before → Becomes n x → slice_get (items ++ added) (slice_index numbers n) ≡ Some x
     pub things : List ℕ
     pub rising : AllPairs (λ a b. a < b) things
     pub count : length things ≡ length added
     pub each : (k n : ℕ) (x : X) → slice_get things k ≡ Some n → slice_get added k ≡ Some x → (n < before) × Becomes n x
+    pub first : (k m n : ℕ) (x : X) → slice_get things k ≡ Some n → slice_get added k ≡ Some x → m < n → Becomes m x → ⊥
     pub once : (i j : ℕ) (x : X) → slice_get (items ++ added) i ≡ Some x → slice_get (items ++ added) j ≡ Some x → length items ≤ j → i ≡ j
     pub room : (length added ≡ 0) ⊎ (length items + length added ≤ limit)
 

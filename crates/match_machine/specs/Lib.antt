@@ -3,3 +3,6 @@ pub mod Order
 pub mod Told
 pub mod Answers
 pub mod Runs
+pub mod Batch
+pub mod Holds
+pub mod Values

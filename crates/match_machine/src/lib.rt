@@ -2,16 +2,22 @@
 #![tactic(auto)]
 
 pub mod answer;
-mod arrange;
+pub mod arrange;
+pub mod batch;
 mod choices;
 pub mod entry_matches;
-pub mod found;
+mod found;
+pub mod holds;
 pub mod item;
 pub mod run;
 mod task;
-pub mod walk;
+mod values;
+mod walk;
 
 pub use answer::Answer;
+pub use batch::Batch;
 pub use entry_matches::EntryMatches;
-pub use found::Found;
 pub use item::Item;
+
+#[cfg(test)]
+mod tests;

@@ -1,5 +1,5 @@
 //! Foralls.
-ghost use Rattle.std.specs.Prelude.{◌≡◌, ◌<◌, ◌^◌, ◌+◌, ◌||◌, not, OnOk};
+ghost use Rattle.std.specs.Prelude.{◌≡◌, ◌<◌, ◌^◌, ◌+◌, ◌||◌, not, true, OnOk};
 ghost use Rattle.smt_names.specs.Makes.{Makes};
 ghost use Rattle.smt_terms.specs.Terms.{forall_value, checked_forall, bound_forall, body_forall, quantified, some_trigger};
 ghost use Rattle.smt_terms.specs.Triggers.{forall_of, triggered, quantified_inside};
@@ -70,6 +70,7 @@ fn put_triggered(
     keys: &[u32],
     body: &Value,
 ) -> Result<Value, Stop>
+    requires { inside.in_forall ≡ true }
     ensures value { Makes result draft.old draft.new (triggered paren head (scope_of state.now inside bound.old) variables.now (attributes_at tree.now keys.now) body.now) }
     ensures bound { OnOk result (bound.new ≡ bound.old) }
 {
@@ -91,6 +92,7 @@ fn put_inside(
     variables: &[Bound],
     body: &Body,
 ) -> Result<Value, Stop>
+    requires { inside.in_forall ≡ true }
     ensures value { Makes result draft.old draft.new (quantified_inside paren head (scope_of state.now inside bound.old) variables.now (here tree.now body.now.at) (attributes_at tree.now body.now.patterns.items)) }
     ensures bound { OnOk result (bound.new ≡ bound.old) }
 {

@@ -1,5 +1,5 @@
 //! Triggers, whose patterns are elaborated where they stand.
-ghost use Rattle.std.specs.Prelude.{◌≡◌, ◌<◌, ◌+◌, ◌^◌, cond, OnOk};
+ghost use Rattle.std.specs.Prelude.{◌≡◌, ◌<◌, ◌+◌, ◌^◌, cond, true, OnOk};
 ghost use Rattle.smt_names.specs.Makes.{Makes, MakesItems};
 ghost use Rattle.smt_names.specs.Names.{is_keyword as keyword};
 ghost use Rattle.smt_terms.specs.Terms.{value, pattern_root, pattern_roots, trigger as trigger_so, triggers as triggers_so};
@@ -43,6 +43,7 @@ fn put_root(
     inside: Inside,
     at: u32,
 ) -> Result<u32, Stop>
+    requires { inside.in_forall ≡ true }
     ensures value { Makes result draft.old draft.new (pattern_root (word_at tree.now at).place (value (word_at tree.now at).place (scope_of state.now inside bound.old) (here tree.now at))) }
     ensures bound { OnOk result (bound.new ≡ bound.old) }
 {
@@ -61,6 +62,7 @@ fn put_roots(
     inside: Inside,
     at: u32,
 ) -> Result<Vec<u32>, Stop>
+    requires { inside.in_forall ≡ true }
     ensures value { MakesItems result draft.old draft.new (pattern_roots (scope_of state.now inside bound.old) (here tree.now at)) }
     ensures bound { OnOk result (bound.new ≡ bound.old) }
 {
@@ -92,6 +94,7 @@ fn put_listed(
     paren: Place,
     at: u32,
 ) -> Result<Trigger, Stop>
+    requires { inside.in_forall ≡ true }
     ensures value { Makes result draft.old draft.new (listed_trigger (scope_of state.now inside bound.old) variables.now paren (here tree.now at)) }
     ensures bound { OnOk result (bound.new ≡ bound.old) }
 {
@@ -153,6 +156,7 @@ fn put_trigger(
     variables: &[Bound],
     key: u32,
 ) -> Result<Trigger, Stop>
+    requires { inside.in_forall ≡ true }
     ensures value { Makes result draft.old draft.new (trigger_so (scope_of state.now inside bound.old) variables.now (attribute_at tree.now key)) }
     ensures bound { OnOk result (bound.new ≡ bound.old) }
 {
@@ -186,6 +190,7 @@ pub(crate) fn put_triggers(
     variables: &[Bound],
     keys: &[u32],
 ) -> Result<Triggers, Stop>
+    requires { inside.in_forall ≡ true }
     ensures value { Makes result draft.old draft.new (triggers_so (scope_of state.now inside bound.old) variables.now (attributes_at tree.now keys.now)) }
     ensures bound { OnOk result (bound.new ≡ bound.old) }
 {

@@ -1,5 +1,5 @@
 //! The values of trees inside a forall.
-ghost use Rattle.std.specs.Prelude.{◌≡◌, ◌==◌, OnOk};
+ghost use Rattle.std.specs.Prelude.{◌≡◌, ◌==◌, true, OnOk};
 ghost use Rattle.smt_names.specs.declared.refusal.Refusal.TheVariants.{WrongSort};
 ghost use Rattle.smt_names.specs.Making.{want};
 ghost use Rattle.smt_names.specs.Value.{sort_of};
@@ -17,7 +17,7 @@ use smt_names::{BoundNames, Refusal, SessionState, Stop, Value};
 use smt_text::{Place, Tree};
 use std::alloc::Global;
 
-/// The value of the tree at a place inside a forall.
+/// The value of the tree at a place inside a forall, where no further forall may stand.
 pub(crate) fn value_inside(
     alloc: Global,
     draft: &mut ShapeDraft,
@@ -28,6 +28,7 @@ pub(crate) fn value_inside(
     at: u32,
     missing: Place,
 ) -> Result<Value, Stop>
+    requires { inside.in_forall ≡ true }
     ensures value { Makes result draft.old draft.new (value missing (scope_of state.now inside bound.old) (here tree.now at)) }
     ensures bound { OnOk result (bound.new ≡ bound.old) }
 {
@@ -45,7 +46,7 @@ pub(crate) fn value_inside(
     ) {
         Err(stop) => Err(stop),
         Ok(Walked::Whole(value)) => Ok(value),
-        Ok(Walked::Universal { .. }) => Err(Stop::Memory),
+        Ok(Walked::Universal { .. }) => unreachable!(),
     }
 }
 

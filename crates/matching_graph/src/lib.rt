@@ -1,0 +1,9 @@
+//! A graph of terms with the codes of its live triggers, and all matches of each.
+#![tactic(auto)]
+
+pub mod graph;
+mod matches;
+#[cfg(test)]
+mod tests;
+
+pub use graph::MatchingGraph;
