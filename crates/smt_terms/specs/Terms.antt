@@ -155,6 +155,7 @@ body_of so_far (Group paren meaning (Token head parts) trees) =
     (made (record { patterns = so_far; tree = Group paren meaning (Token head parts) trees }))
 body_of so_far trees = made (record { patterns = so_far; tree = trees })
 
+-- the row of a pattern with this meaning
 abbrev pub pattern_root : Place → Making Value → Making ℕ
 pattern_root at meaning = do
   v ← meaning
