@@ -30,7 +30,8 @@ use Rattle.shape_patterns.specs.Triggers.{each_occurs, rooted_trigger}
 use Rattle.smt_terms.specs.Meant.{Meant, End, Token, Group, from, no_more, at_least, Listed, no_binding, attributes_of}
 use Rattle.smt_terms.specs.Terms.{token_value, variables_from, Attribute, attribute_if, is_pattern_key, patterns_in, Body, is_annotation, body_of, pattern_root, add_root, pattern_roots, pattern_list, trigger, triggers, some_trigger, inside_of, quantified, body_forall, bound_forall, checked_forall, forall_value}
 use Rattle.shape_laws.specs.Sorted.{HasSort, IsPlain, IsTruth, IsSortedTrigger}
-use Rattle.shape_laws.specs.Sound.{Fits, Stood, may_hold, IsScope}
+use Rattle.shape_laws.specs.Sound.{Fits}
+use Rattle.shape_laws.proofs.Standing.{Stood, may_hold, IsScope}
 use Rattle.shape_laws.specs.Laws.{sorts_of}
 use Rattle.shape_laws.proofs.Growing.{keeps_all, keeps_none, Extends, rows_keep, foralls_keep, sort_kept, plain_kept, sort_stands, plain_stands, truth_kept}
 use Rattle.shape_laws.proofs.Making.{Setting, Sort, Plain, Truth, Sound, Good, makes, refuses, plain_later, sort_later, good_then, good_made, good_want, good_as, good_node}

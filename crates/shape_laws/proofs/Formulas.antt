@@ -19,7 +19,8 @@ use Rattle.smt_terms.specs.Meant.{Meant, Token, Group, first_place, sort_first}
 use Rattle.smt_names.specs.Names.{State, Declared}
 use Rattle.smt_terms.specs.Terms.{meant, variables_from}
 use Rattle.shape_laws.specs.Sorted.{IsPlain}
-use Rattle.shape_laws.specs.Sound.{Fits, IsWhole, IsDefinition, inside, Stood, IsScope, AreDeclared}
+use Rattle.shape_laws.specs.Sound.{Fits, IsWhole, IsDefinition, inside, AreDeclared}
+use Rattle.shape_laws.proofs.Standing.{Stood, IsScope}
 use Rattle.shape_laws.specs.Laws.{outside, MakesFormulas, sorts_of, inside_definition, MakesDefinitions, KeepsDefinitions}
 use Rattle.shape_laws.proofs.Growing.{Keeps, keeps_all, keeps_front, sort_kept, plain_kept, truth_stands}
 use Rattle.shape_laws.proofs.Making.{Setting, Sound, Good, makes}

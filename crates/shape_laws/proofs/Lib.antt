@@ -1,4 +1,5 @@
 pub mod Growing
+pub mod Standing
 pub mod Making
 pub mod Values
 pub mod Forms

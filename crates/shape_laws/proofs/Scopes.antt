@@ -24,7 +24,7 @@ use Rattle.smt_names.specs.Names.{Scope, Declared, Defined, Named, named_by, fun
 use Rattle.smt_terms.specs.Meant.{Meaning, Meant, End, Token, Group, from, first_place}
 use Rattle.smt_terms.specs.Terms.{stood_for, free_value, name_value, token_value, value, add_value, values, truth, bind, bound_values, let_value, annotated_value}
 use Rattle.shape_laws.specs.Sorted.HasSort.{variable}
-use Rattle.shape_laws.specs.Sound.{Stood, may_hold, IsScope}
+use Rattle.shape_laws.proofs.Standing.{Stood, may_hold, IsScope}
 use Rattle.shape_laws.proofs.Growing.{Extends}
 use Rattle.shape_laws.proofs.Making.{Setting, Sound, Good, refuses, good_then, good_made, good_want, good_row}
 use Rattle.shape_laws.proofs.Values.{FitsIn, fits_later, Each, none, more}

@@ -11,7 +11,7 @@ use Rattle.smt_terms.specs.declared.form.Form.{Form}
 use Rattle.smt_terms.specs.declared.form.Form.TheVariants.{Let, Annotated, Universal, Foreign, Application}
 use Rattle.smt_terms.specs.Meant.{Meant, End, Token, Group}
 use Rattle.smt_terms.specs.Terms.{named_value, unbound_value, form_of, form_value, list_value, meant}
-use Rattle.shape_laws.specs.Sound.{IsScope}
+use Rattle.shape_laws.proofs.Standing.{IsScope}
 use Rattle.shape_laws.proofs.Making.{Sound, Good, refuses, good_then}
 use Rattle.shape_laws.proofs.Values.{FitsIn}
 use Rattle.shape_laws.proofs.Applying.{IsNamed, of_core, of_function, of_definition, of_none, good_applied}

@@ -1,14 +1,11 @@
--- What is kept while terms are elaborated.
-use Rattle.std.specs.Prelude.{◌≡◌, ℕ, ◌≤◌, Bool, true, false, not, ◌||◌, List, [], length, slice_get, Some, None, All}
+-- When what is declared and defined is right.
+use Rattle.std.specs.Prelude.{◌≡◌, ℕ, ◌≤◌, Bool, true, false, List, [], length, slice_get, Some, None, All}
 use Rattle.formula_shape.specs.declared.shape_row.ShapeRow.{ShapeRow}
 use Rattle.formula_shape.specs.declared.shape_node.ShapeNode.{ShapeNode}
 use Rattle.formula_shape.specs.Draft.{Draft, AreLawful}
 use Rattle.smt_names.specs.declared.value.Value.{Value}
 use Rattle.smt_names.specs.declared.value.Value.TheVariants.{Term, Formula}
-use Rattle.smt_names.specs.declared.bound.Bound.{Bound}
-use Rattle.smt_names.specs.declared.stands.Stands.{Stands}
-use Rattle.smt_names.specs.declared.stands.Stands.TheVariants.{Given, Variable}
-use Rattle.smt_names.specs.Names.{Scope, Declared, Defined}
+use Rattle.smt_names.specs.Names.{Declared, Defined}
 use Rattle.shape_laws.specs.Sorted.{HasSort, IsPlain, IsTruth}
 
 -- The value of a term or a formula stands in the draft: a term has its sort, which is not Bool; a formula and its complement hold no
@@ -43,20 +40,3 @@ pub record IsDefinition (functions : List Declared) (d : Defined) : Type 0 where
 pub record AreDeclared (functions : List Declared) (definitions : List Defined) : Type 0 where
   pub functions_are : (n : ℕ) (f : Declared) → slice_get functions n ≡ Some f → IsFunction f
   pub definitions_are : (n : ℕ) (d : Defined) → slice_get definitions n ≡ Some d → IsDefinition functions d
-
--- what a bound name stands for, where the variables have these sorts
-abbrev pub Stood : List Declared → List ℕ → Bool → Draft → Stands → Type 0
-Stood functions variables universal draft (Given v) = Fits functions variables universal draft v
-Stood functions variables universal draft (Variable index sort) = slice_get variables index ≡ Some sort
-
--- whether a formula with a forall may stand there
-abbrev pub may_hold : Scope → Bool
-may_hold scope = not (scope.in_forall || scope.in_definition)
-
--- The names of a scope stand in the draft, where the variables have these sorts, none of which is Bool. There are none outside
--- foralls and definitions. A name that was bound before a forall may hold one.
-pub record IsScope (variables : List ℕ) (draft : Draft) (scope : Scope) : Type 0 where
-  pub declared : AreDeclared scope.state.functions scope.state.definitions
-  pub others : All (λ sort. 1 ≤ sort) variables
-  pub outside : may_hold scope ≡ true → variables ≡ []
-  pub bound : All (λ (b : Bound). Stood scope.state.functions variables (not scope.in_definition) draft b.stands) scope.bound
