@@ -1,0 +1,6 @@
+pub mod Built
+pub mod Look
+pub mod Rows
+pub mod Turns
+pub mod Walks
+pub mod Numerals

@@ -1,0 +1,4 @@
+pub mod Number
+pub mod Texts
+pub mod Meaning
+pub mod ClapCommand

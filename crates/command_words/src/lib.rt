@@ -1,0 +1,15 @@
+//! Reads the words of the command line.
+#![tactic(auto)]
+
+mod fault;
+mod given;
+mod job;
+mod number;
+mod words;
+
+pub use fault::WordsFault;
+pub use job::Job;
+pub use words::{Words, read_words};
+
+#[cfg(test)]
+mod tests;
