@@ -1,9 +1,9 @@
 //! The texts that the words give, by their places.
-ghost use Rattle.std.specs.Prelude.{◌≡◌, IfOk, map, string_bytes};
+ghost use Rattle.std.specs.Prelude.{◌≡◌, IfOk, false, map, string_bytes};
 ghost use Rattle.clap.specs.Values.{kind_of};
-ghost use Rattle.clap.specs.Words.{app_of, found_of, rows_of};
+ghost use Rattle.clap.specs.Words.{app_of, found_of, rows_of, rule_of};
 ghost use Rattle.command_words.specs.Texts.{texts_of, texts_in};
-ghost use Rattle.command_words.specs.ClapCommand.{command_line, texts_of_rows};
+ghost use Rattle.command_words.specs.ClapCommand.{command_line, option_rule, texts_of_rows};
 
 use crate::fault::WordsFault;
 use clap::error::ErrorKind;
@@ -19,16 +19,20 @@ pub(crate) struct Given<'a> {
     pub(crate) count: Option<&'a str>,
 }
 
+/// An option of this name, which takes one text and may stand once.
+fn text_option<'a>(alloc: Global, name: &'a str) -> Arg<'a>
+    ensures rule { rule_of result ≡ option_rule name.entry.now }
+    ensures local { result.global ≡ false }
+{
+    Arg::new(alloc, name).long(name).action(ArgAction::Set)
+}
+
 /// The command line as `clap` is told of it: two options and two positionals, all of text.
 fn command_line<'a>(alloc: Global) -> Result<Command<'a>, AllocError>
     ensures { IfOk result (λ command. app_of command ≡ command_line) }
 {
-    let workers = Arg::new(alloc, "workers")
-        .long("workers")
-        .action(ArgAction::Set);
-    let rounds = Arg::new(alloc, "rounds")
-        .long("rounds")
-        .action(ArgAction::Set);
+    let workers = text_option(alloc, "workers");
+    let rounds = text_option(alloc, "rounds");
     let command = Arg::new(alloc, "command");
     let count = Arg::new(alloc, "count");
     Command::new(alloc, "ematch")
