@@ -6,3 +6,4 @@ pub mod EnteredTerms
 pub mod StackLemmas
 pub mod AssertLemmas
 pub mod OneLemmas
+pub mod TestLemmas

@@ -2,12 +2,13 @@
 mod sketch;
 
 use crate::AssertionStack;
-use crate::laws::{asserts_law, pop_law};
+use crate::laws::{asserts_law, one_answer_law, pop_law};
 use em_outside::Limits;
 use formula_shape::Shape;
 use formula_table::EnterFault;
 use sketch::Sketch;
 use std::alloc::Global;
+use std::process::Abort;
 use std::test::Fail;
 use term_table::ClassGraph;
 
@@ -74,76 +75,150 @@ fn run(stack: &mut AssertionStack, alloc: Global, steps: &[Step]) -> Result<u32,
     Ok(faults)
 }
 
-/// A script, how many terms and nodes there may be, and what there is then: the terms, the nodes, the live triggers, the
-/// operations that were done and the levels; the faults, one for each want of terms and ten for each of nodes; and the
-/// classes of the first five terms, each by its least term.
-type Case<'a> = (&'a [Step], [u32; 2], [u32; 5], u32, [u32; 5]);
+/// What there is after a script: the terms, the nodes, the live triggers, the operations that were done and the levels.
+type Counts = [u32; 5];
+
+/// Does the steps where there may be so many terms and nodes. Expects these faults, one for each want of terms and ten for
+/// each of nodes, these counts, and these least terms of the classes.
+fn expect(
+    rt: &impl Abort,
+    alloc: Global,
+    steps: &[Step],
+    most: [u32; 2],
+    faults: u32,
+    counts: Counts,
+    leaders: &[u32],
+) -> Result<(), Fail> {
+    let mut limits = Limits::standard();
+    limits.terms = most[0].max(2);
+    limits.nodes = most[1];
+    let mut stack = AssertionStack::new(alloc, &limits)?;
+    assert_eq!(rt; run(&mut stack, alloc, steps)?, faults);
+    let graph = stack.graph();
+    assert_eq!(rt;
+        [graph.len(), stack.formulas().len(), graph.triggers()],
+        [counts[0], counts[1], counts[2]]
+    );
+    assert_eq!(rt;
+        [graph.version(), stack.depth() as u64],
+        [counts[3] as u64, counts[4] as u64]
+    );
+    for (term, leader) in leaders.iter().enumerate() {
+        let known = term < graph.len() as usize;
+        assert!(rt; known);
+        if known {
+            assert_eq!(rt; graph.leader(term as u32), *leader);
+        }
+    }
+    Ok(())
+}
 
 #[test]
-fn scripts_assert_what_they_say(rt: HostRuntime) -> Result<(), Fail> {
+fn literals_merge_or_differ(rt: HostRuntime) -> Result<(), Fail> {
     let alloc = rt.alloc();
     let equal = Step::Assert(Said::Equation(true));
     let apart = Step::Assert(Said::Equation(false));
     let holds = Step::Assert(Said::Atom(true));
     let fails = Step::Assert(Said::Atom(false));
+    expect(
+        &rt,
+        alloc,
+        &[equal, equal],
+        [9, 9],
+        0,
+        [4, 1, 0, 3, 0],
+        &[0, 1, 2, 2],
+    )?;
+    expect(
+        &rt,
+        alloc,
+        &[apart],
+        [9, 9],
+        0,
+        [4, 1, 0, 3, 0],
+        &[0, 1, 2, 3],
+    )?;
+    expect(&rt, alloc, &[holds], [9, 9], 0, [3, 1, 0, 2, 0], &[0, 1, 0])?;
+    expect(&rt, alloc, &[fails], [9, 9], 0, [3, 1, 0, 2, 0], &[0, 1, 1])?;
+    Ok(())
+}
+
+#[test]
+fn conjunctions_hold_with_their_parts(rt: HostRuntime) -> Result<(), Fail> {
+    let alloc = rt.alloc();
+    let equal = Step::Assert(Said::Equation(true));
     let both = Step::Assert(Said::Both);
     let either = Step::Assert(Said::Either);
     let forall = Step::Assert(Said::Forall);
-    let table: [Case; 11] = [
-        (&[equal, equal], [9, 9], [4, 1, 0, 3, 0], 0, [0, 1, 2, 2, 4]),
-        (&[apart], [9, 9], [4, 1, 0, 3, 0], 0, [0, 1, 2, 3, 4]),
-        (&[holds], [9, 9], [3, 1, 0, 2, 0], 0, [0, 1, 0, 3, 4]),
-        (&[fails], [9, 9], [3, 1, 0, 2, 0], 0, [0, 1, 1, 3, 4]),
-        (&[both, equal], [9, 9], [5, 3, 0, 5, 0], 0, [0, 1, 2, 2, 2]),
-        (&[either], [9, 9], [5, 3, 0, 3, 0], 0, [0, 1, 2, 3, 4]),
-        (&[forall], [9, 9], [2, 1, 2, 2, 0], 0, [0, 1, 2, 3, 4]),
-        (
-            &[equal, Step::Push, both, forall, Step::Push],
-            [9, 9],
-            [5, 4, 2, 9, 2],
-            0,
-            [0, 1, 2, 2, 2],
-        ),
-        (
-            &[
-                equal,
-                Step::Push,
-                both,
-                forall,
-                Step::Push,
-                Step::Pop,
-                Step::Pop,
-            ],
-            [9, 9],
-            [4, 1, 0, 11, 0],
-            0,
-            [0, 1, 2, 2, 4],
-        ),
-        (&[both, holds], [4, 9], [4, 1, 0, 3, 0], 1, [0, 1, 0, 3, 4]),
-        (&[holds, both], [9, 2], [5, 1, 0, 4, 0], 10, [0, 1, 0, 3, 4]),
-    ];
-    for (steps, most, wanted, faults, classes) in table {
-        let mut limits = Limits::standard();
-        limits.terms = most[0].max(2);
-        limits.nodes = most[1];
-        let mut stack = AssertionStack::new(alloc, &limits)?;
-        assert_eq!(rt; run(&mut stack, alloc, steps)?, faults);
-        let graph = stack.graph();
-        let found = [
-            graph.len(),
-            stack.formulas().len(),
-            graph.triggers(),
-            graph.version() as u32,
-            stack.depth(),
-        ];
-        assert_eq!(rt; found, wanted);
-        for term in 0..5 {
-            if term < graph.len() {
-                assert_eq!(rt; graph.leader(term), classes[term as usize]);
-            }
-        }
-    }
+    expect(
+        &rt,
+        alloc,
+        &[both, equal],
+        [9, 9],
+        0,
+        [5, 3, 0, 5, 0],
+        &[0, 1, 2, 2, 2],
+    )?;
+    expect(
+        &rt,
+        alloc,
+        &[either],
+        [9, 9],
+        0,
+        [5, 3, 0, 3, 0],
+        &[0, 1, 2, 3, 4],
+    )?;
+    expect(&rt, alloc, &[forall], [9, 9], 0, [2, 1, 2, 2, 0], &[0, 1])?;
     asserts_law();
     pop_law();
+    one_answer_law();
+    Ok(())
+}
+
+#[test]
+fn levels_and_limits(rt: HostRuntime) -> Result<(), Fail> {
+    let alloc = rt.alloc();
+    let equal = Step::Assert(Said::Equation(true));
+    let holds = Step::Assert(Said::Atom(true));
+    let both = Step::Assert(Said::Both);
+    let forall = Step::Assert(Said::Forall);
+    let open = [equal, Step::Push, both, forall, Step::Push];
+    expect(
+        &rt,
+        alloc,
+        &open,
+        [9, 9],
+        0,
+        [5, 4, 2, 9, 2],
+        &[0, 1, 2, 2, 2],
+    )?;
+    let closed = [equal, Step::Push, both, forall, Step::Pop];
+    expect(
+        &rt,
+        alloc,
+        &closed,
+        [9, 9],
+        0,
+        [4, 1, 0, 9, 0],
+        &[0, 1, 2, 2],
+    )?;
+    expect(
+        &rt,
+        alloc,
+        &[both, holds],
+        [4, 9],
+        1,
+        [4, 1, 0, 3, 0],
+        &[0, 1, 0, 3],
+    )?;
+    expect(
+        &rt,
+        alloc,
+        &[holds, both],
+        [9, 2],
+        10,
+        [5, 1, 0, 4, 0],
+        &[0, 1, 0, 3, 4],
+    )?;
     Ok(())
 }
