@@ -8,3 +8,4 @@ pub mod ReachLaws
 pub mod Draft
 pub mod DraftInside
 pub mod DraftLaws
+pub mod KeptLaws

@@ -5,7 +5,7 @@ use Rattle.std.proofs.lemmas.Bool.{cases_lt}
 use Rattle.std.proofs.lemmas.List.{length-append}
 use Rattle.std.proofs.lemmas.List.Elements.{All-weaker}
 use Rattle.std.proofs.lemmas.Option.{same_Some, slice_get_within}
-use Rattle.term_table.specs.ListLaws.{push_cases, element_at}
+use Rattle.term_table.specs.ListLaws.{push_cases}
 use Rattle.term_table.specs.declared.term_row.TermRow.{TermRow}
 use Rattle.term_table.specs.Terms.{HasRow, term_row}
 use Rattle.term_table.specs.TermEntry.{AddGrows}
@@ -13,7 +13,6 @@ use Rattle.term_table.specs.TermEntry.AddGrows.{new_row, old_row}
 use Rattle.formula_shape.specs.declared.shape_row.ShapeRow.{ShapeRow}
 use Rattle.formula_shape.specs.declared.shape_row.ShapeRow.TheVariants.{Var, App}
 use Rattle.formula_shape.specs.Reach.{ReachesRow}
-use Rattle.formula_shape.specs.ReachLaws.{row_stands}
 use Rattle.formula_shape.specs.Draft.{Formula, IsFormula}
 use Rattle.formula_table.specs.InOrder.{AreInOrder, IsFullFor, PutsNext}
 use Rattle.formula_table.specs.InOrder.PutsNext.{nothing, put_last, stood}
@@ -21,6 +20,7 @@ use Rattle.formula_table.specs.Entry.{BecomesRow, EntersRows, entered_row, Lacks
 use Rattle.formula_table.specs.declared.enter_fault.EnterFault.{EnterFault}
 use Rattle.formula_table.specs.declared.enter_fault.EnterFault.TheVariants.{TermsFull, NodesFull, Memory}
 use Rattle.formula_table.specs.EntryInside.{NumbersStand, RowGrows, StopsTerm, StopsRow, StopsRows}
+use Rattle.formula_table.specs.BecomesLaws.{row_becomes}
 use Rattle.formula_table.proofs.InOrderLemmas.{none_in_order, next_in_order, map_index-push, index-push, index-last}
 
 -- what follows from the value follows of the result
@@ -84,16 +84,6 @@ item_stands Becomes items more limit number x becomes (nothing not) = absurd (no
 item_stands Becomes items more limit number x becomes (put_last {x = y} _ nowhere room) = omega (arith, length-append items (y ∷ []))
 item_stands Becomes items more limit number x becomes (stood {x = y} _ at) = let within = slice_get_within items number y at in omega (arith, ap length (append-nil items))
 
--- a reached row becomes a row over terms
-pub becomes_row : (formula : Formula) → IsFormula formula → (terms : List ℕ) (n : ℕ) → ReachesRow formula.rows formula.nodes formula.root n → (x : TermRow) × BecomesRow formula terms n x
-becomes_row formula is terms n reach =
-    let at = element_at formula.rows n (row_stands formula.rows formula.nodes formula.foralls is.lawful formula.root is.root_stands reach) in
-    by at.0 at.1
-  where
-    by : (row : ShapeRow) → slice_get formula.rows n ≡ Some row → (x : TermRow) × BecomesRow formula terms n x
-    by (Var index) at = absurd (is.closed n index reach at)
-    by (App symbol args) at = (entered_row terms symbol args, record { symbol = symbol; args = args; reached = reach; stands = at; row_is = refl })
-
 -- the first rows were entered, and the terms are as many as they say
 pub record RowsSoFar (grown : List TermRow → Type 0) (formula : Formula) (rows : List TermRow) (limit : ℕ) (now : List TermRow) (now_limit : ℕ) (terms : List ℕ) (n : ℕ) : Type 0 where
   pub added : List TermRow
@@ -144,7 +134,7 @@ module _ (State : Type 0) (rows_in : State → List TermRow) (limit_in : State �
               (λ not_old.
               let last : k ≡ length terms = omega (arith, length-append terms (term ∷ [])) in
               let same : slice_index (terms ++ term ∷ []) k ≡ term = ap (slice_index (terms ++ term ∷ [])) last ∙ index-last terms term in
-              let becomes = becomes_row formula is_formula terms (length terms) (subst (ReachesRow formula.rows formula.nodes formula.root) last reach) in
+              let becomes = row_becomes formula is_formula terms (length terms) (subst (ReachesRow formula.rows formula.nodes formula.root) last reach) in
               let bound = item_stands Becomes (rows_in second) more (limit_in second) term becomes.0 becomes.1 grows.2 in
               omega (arith, ap length law.0))
               (cases_lt k (length terms));

@@ -1,5 +1,5 @@
 -- How foralls are entered, one after another.
-use Rattle.std.proofs.Common.{◌≡◌, ℕ, zero, suc, ◌+◌, ◌<◌, ◌≤◌, ◌↔◌, Bool, true, false, List, [], ◌∷◌, ◌++◌, length, get_or, slice_get, Some, All, Contains, refl, sym, ap, subst, ◌∙◌, ⊎_elim, append-nil, append_assoc, arith, true≢false}
+use Rattle.std.proofs.Common.{◌≡◌, ℕ, suc, ◌+◌, ◌<◌, ◌↔◌, Bool, true, false, List, [], ◌∷◌, ◌++◌, length, get_or, slice_get, Some, Contains, refl, sym, ap, subst, ◌∙◌, ⊎_elim, append-nil, append_assoc, arith, true≢false}
 use Rattle.std.specs.Prelude.{slice_index}
 use Rattle.std.proofs.lemmas.Bool.{cases_lt}
 use Rattle.std.proofs.lemmas.List.{length-append}
@@ -7,13 +7,11 @@ use Rattle.std.proofs.lemmas.List.Elements.{Contains-push, Contains-push_cases, 
 use Rattle.std.proofs.lemmas.List.Quantifiers.{all_pairs_push}
 use Rattle.std.proofs.lemmas.Option.{none-some, same_Some, slice_get_within, slice_get-get_or}
 use Rattle.term_table.specs.declared.trigger.Trigger.{Trigger}
-use Rattle.term_table.specs.Trigger.{IsValid, Occurs}
-use Rattle.term_table.specs.Trigger.Occurs.{at_root, below}
-use Rattle.term_table.specs.ListLaws.{All-slice_get, element_at, slice_get-append_left, slice_get-push, push_cases, place_from_Contains, Contains-slice_get}
+use Rattle.term_table.specs.ListLaws.{element_at, slice_get-append_left, slice_get-push, push_cases, place_from_Contains, Contains-slice_get}
 use Rattle.formula_shape.specs.declared.shape_forall.ShapeForall.{ShapeForall}
-use Rattle.formula_shape.specs.Draft.{Formula, FitsTrigger}
+use Rattle.formula_shape.specs.Draft.{Formula}
 use Rattle.formula_table.specs.declared.table_forall.TableForall.{TableForall}
-use Rattle.formula_table.specs.Formulas.{Formulas, IsForallOf, IsTriggerOf, GrowsTable, with_foralls}
+use Rattle.formula_table.specs.Formulas.{Formulas, GrowsTable, with_foralls}
 use Rattle.formula_table.specs.Entry.{placed, numbered, table_forall, ReachesForall, EntersForalls}
 use Rattle.formula_table.specs.EntryInside.{ForallGrows, ForallsEntered, ForallNumbersStand}
 use Rattle.formula_table.proofs.InOrderLemmas.{index-push, index-last}
@@ -24,51 +22,6 @@ numbered-push forall place [] trigger = let same : place + 0 ≡ place = omega a
 numbered-push forall place (t ∷ triggers) trigger =
     let same : (place + 1) + length triggers ≡ place + suc (length triggers) = omega arith in
     ap (λ (rest : List Trigger). placed forall place t ∷ rest) (numbered-push forall (place + 1) triggers trigger ∙ ap (λ (k : ℕ). numbered forall (place + 1) triggers ++ placed forall k trigger ∷ []) same)
-
--- a trigger among the numbered ones
-numbered_at : (forall place : ℕ) (triggers : List Trigger) (n : ℕ) (trigger : Trigger) → slice_get (numbered forall place triggers) n ≡ Some trigger → (old : Trigger) × (slice_get triggers n ≡ Some old) × (trigger ≡ placed forall (place + n) old)
-numbered_at forall place [] n trigger at = absurd (none-some trigger at)
-numbered_at forall place (t ∷ triggers) zero trigger at = let same : place ≡ place + 0 = omega arith in (t, refl, sym (same_Some (placed forall place t) trigger at) ∙ ap (λ (k : ℕ). placed forall k t) same)
-numbered_at forall place (t ∷ triggers) (suc n) trigger at =
-    let rest = numbered_at forall (place + 1) triggers n trigger at in
-    let same : (place + 1) + n ≡ place + suc n = omega arith in
-    (rest.0, rest.1, rest.2 ∙ ap (λ (k : ℕ). placed forall k rest.0) same)
-
-occurs_placed : (forall place : ℕ) (trigger : Trigger) {start row : ℕ} {path : List ℕ} → Occurs trigger start path row → Occurs (placed forall place trigger) start path row
-occurs_placed forall place trigger (at_root at) = at_root at
-occurs_placed forall place trigger (below above at part) = below (occurs_placed forall place trigger above) at part
-
-valid_placed : (forall place : ℕ) (trigger : Trigger) → IsValid trigger → IsValid (placed forall place trigger)
-valid_placed forall place trigger valid = record {
-  earlier = valid.earlier;
-  few_parts = valid.few_parts;
-  once = valid.once;
-  roots = valid.roots;
-  some_root = valid.some_root;
-  few_roots = valid.few_roots;
-  reached = λ row stands. let r = valid.reached row stands in (r.0, r.1, occurs_placed forall place trigger r.2);
-  small = valid.small;
-  few_variables = valid.few_variables;
-  below = valid.below;
-  occur = valid.occur;
-}
-
--- a forall of a shape is one of the table
-pub IsForallOf-table_forall : (number : ℕ) (new : ShapeForall) → new.variables ≤ 32 → All (FitsTrigger new.variables) new.triggers → IsForallOf number (table_forall number new)
-IsForallOf-table_forall number new few fit = record {
-  few_variables = few;
-  triggers = λ place trigger at.
-      let old = numbered_at number 0 new.triggers place trigger at in
-      let fits = All-slice_get (FitsTrigger new.variables) new.triggers place old.0 fit old.1 in
-      let here : 0 + place ≡ place = omega arith in
-      subst (IsTriggerOf number place new.variables) (sym old.2)
-      (record {
-        valid = valid_placed number (0 + place) old.0 fits.valid;
-        forall_is = refl;
-        place_is = here;
-        variables_are = fits.variables_are;
-      });
-}
 
 -- no further foralls
 pub with_foralls_none : (table : Formulas) → with_foralls [] table ≡ table

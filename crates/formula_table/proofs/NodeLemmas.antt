@@ -1,20 +1,19 @@
 -- How nodes are entered, one after another.
-use Rattle.std.proofs.Common.{◌≡◌, ℕ, ◌+◌, ◌<◌, ◌↔◌, List, [], ◌∷◌, ◌++◌, length, slice_get, Option, Some, None, All, Contains, refl, sym, ap, subst, ◌∙◌, ⊎_elim, append-nil, append_assoc, arith}
+use Rattle.std.proofs.Common.{◌≡◌, ℕ, ◌+◌, ◌<◌, ◌↔◌, List, [], ◌∷◌, ◌++◌, length, slice_get, Option, Some, None, All, refl, sym, ap, subst, ◌∙◌, ⊎_elim, append-nil, append_assoc, arith}
 use Rattle.std.specs.Prelude.{slice_index}
 use Rattle.std.specs.Option.{option_map}
 use Rattle.std.proofs.lemmas.Bool.{cases_lt}
 use Rattle.std.proofs.lemmas.List.{length-append}
-use Rattle.std.proofs.lemmas.List.Elements.{All-weaker, All-contains, All-contains_itself, All-map, Contains-push}
+use Rattle.std.proofs.lemmas.List.Elements.{All-weaker}
 use Rattle.std.proofs.lemmas.Option.{none-some, same_Some}
 use Rattle.term_table.specs.ListLaws.{element_at}
 use Rattle.formula_shape.specs.declared.shape_node.ShapeNode.{ShapeNode}
 use Rattle.formula_shape.specs.declared.shape_node.ShapeNode.TheVariants.{Equal, Atom, And, Or, Forall}
-use Rattle.formula_shape.specs.ShapeNode.{parts_of, foralls_of}
+use Rattle.formula_shape.specs.ShapeNode.{parts_of}
 use Rattle.formula_shape.specs.Items.{with_item}
 use Rattle.formula_shape.specs.ItemLaws.{put_cases}
 use Rattle.formula_shape.specs.SameLaws.{found_at, absent}
 use Rattle.formula_shape.specs.Reach.{ReachesNode}
-use Rattle.formula_shape.specs.Reach.ReachesNode.{part_of_it}
 use Rattle.formula_shape.specs.ReachLaws.{node_stands}
 use Rattle.formula_shape.specs.Draft.{Formula, IsFormula}
 use Rattle.formula_table.specs.declared.node.Node.{Node}
@@ -23,7 +22,7 @@ use Rattle.formula_table.specs.declared.table_forall.TableForall.{TableForall}
 use Rattle.formula_table.specs.declared.enter_fault.EnterFault.{EnterFault}
 use Rattle.formula_table.specs.declared.enter_fault.EnterFault.TheVariants.{TermsFull, NodesFull, Memory}
 use Rattle.formula_table.specs.Node.{same_entered}
-use Rattle.formula_table.specs.Formulas.{Formulas, FitsTable, GrowsTable, RefusesEntered, with_entered}
+use Rattle.formula_table.specs.Formulas.{Formulas, GrowsTable, RefusesEntered, with_entered}
 use Rattle.formula_table.specs.InOrder.{AreInOrder, IsFullFor, PutsNext}
 use Rattle.formula_table.specs.InOrder.PutsNext.{put_last, stood}
 use Rattle.formula_table.specs.Entry.{entered_node, BecomesNode, EntersNodes, TableGrows, StopsTable}
@@ -83,14 +82,6 @@ same_nodes formula is terms foralls numbers number n x below = (
   where
     equal : (node : ShapeNode) → slice_get formula.nodes n ≡ Some node → entered_node terms foralls (numbers ++ number ∷ []) node ≡ entered_node terms foralls numbers node
     equal node at = entered_same terms foralls numbers number node (All-weaker (λ part. part < n) (λ part. part < length numbers) (λ part lower. omega arith) (parts_of node) (is.lawful.nodes_fit n node at).parts_stand)
-
--- the node that a node becomes fits the table
-pub fits_entered : (formula : Formula) (terms foralls numbers : List ℕ) (table : Formulas) (n : ℕ) (node : ShapeNode) → slice_get formula.nodes n ≡ Some node → ReachesNode formula.nodes formula.root n → All (λ part. part < length numbers) (parts_of node) → All (λ k. k < length formula.foralls) (foralls_of node) → ForallNumbersStand formula table foralls → NodeNumbersStand formula table numbers → FitsTable table (entered_node terms foralls numbers node)
-fits_entered formula terms foralls numbers table n (Equal positive left right) at reach parts named forall_stand stand = omega arith
-fits_entered formula terms foralls numbers table n (Atom positive row) at reach parts named forall_stand stand = tt
-fits_entered formula terms foralls numbers table n (And xs) at reach parts named forall_stand stand = All-map (λ part. part < length table.nodes) (slice_index numbers) xs (All-weaker (Contains xs) (λ x. slice_index numbers x < length table.nodes) (λ x c. stand x (All-contains (λ p. p < length numbers) xs x parts c) (part_of_it reach at c)) xs (All-contains_itself xs))
-fits_entered formula terms foralls numbers table n (Or xs) at reach parts named forall_stand stand = All-map (λ part. part < length table.nodes) (slice_index numbers) xs (All-weaker (Contains xs) (λ x. slice_index numbers x < length table.nodes) (λ x c. stand x (All-contains (λ p. p < length numbers) xs x parts c) (part_of_it reach at c)) xs (All-contains_itself xs))
-fits_entered formula terms foralls numbers table n (Forall index) at reach parts named forall_stand stand = forall_stand index (All-contains (λ k. k < length formula.foralls) (index ∷ []) index named (Contains-push [] index)) (record { node = n; reached = reach; stands = at })
 
 -- the first nodes were entered
 pub record NodesSoFar (formula : Formula) (terms foralls : List ℕ) (old now : Formulas) (numbers : List ℕ) (n : ℕ) : Type 0 where

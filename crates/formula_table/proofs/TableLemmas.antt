@@ -1,18 +1,18 @@
 -- What stays a table of formulas.
-use Rattle.std.proofs.Common.{◌≡◌, ℕ, ◌<◌, ◌≤◌, List, [], ◌∷◌, length, take, Some, All, sym, subst, ⊎_elim, arith}
+use Rattle.std.proofs.Common.{◌≡◌, ℕ, ◌<◌, ◌≤◌, List, [], ◌∷◌, length, take, Some, sym, subst, ⊎_elim, arith}
 use Rattle.std.proofs.lemmas.List.{length-take, length-append}
 use Rattle.std.proofs.lemmas.Option.{slice_get_within}
 use Rattle.term_table.specs.ListLaws.{slice_get-take, push_cases}
-use Rattle.formula_table.specs.declared.node.Node.TheVariants.{Equal, Atom, And, Or, Forall}
+use Rattle.formula_table.specs.declared.node.Node.TheVariants.{Equal, Forall}
 use Rattle.formula_table.specs.declared.node.Node.{Node}
 use Rattle.formula_table.specs.declared.table_forall.TableForall.{TableForall}
 use Rattle.formula_shape.specs.Items.{with_item}
-use Rattle.formula_table.specs.Node.{children_of, same_entered}
+use Rattle.formula_table.specs.Node.{same_entered}
+use Rattle.formula_table.specs.FormulaLaws.{IsFormulaTable-push}
 use Rattle.formula_table.specs.Formulas.{Formulas, IsFormulaTable, IsForallOf, NamesFirst, FitsTable, first_formulas, with_foralls}
 use Rattle.formula_shape.specs.ItemLaws.{put_cases}
-use Rattle.formula_shape.specs.SameLaws.{once-push}
+use Rattle.formula_shape.specs.SameLaws.{absent}
 use Rattle.formula_table.proofs.Same.{entered_told}
-use Rattle.std.proofs.lemmas.List.Elements.{All-nil}
 
 -- the first formulas of a table are a table
 pub IsFormulaTable-first : (table : Formulas) (nodes foralls : ℕ) → IsFormulaTable table → NamesFirst table nodes foralls → foralls ≤ length table.foralls → IsFormulaTable (first_formulas nodes foralls table)
@@ -40,22 +40,8 @@ IsFormulaTable-forall table is new fits = record {
   within = is.within;
 }
 
-fits_earlier : (table : Formulas) (node : Node) → FitsTable table node → All (λ part. part < length table.nodes) (children_of node)
-fits_earlier table (Equal positive left right) fits = All-nil _
-fits_earlier table (Atom positive term) fits = All-nil _
-fits_earlier table (And parts) fits = fits
-fits_earlier table (Or parts) fits = fits
-fits_earlier table (Forall forall) fits = All-nil _
-
 -- a table with a node is a table
 pub IsFormulaTable-node : (table : Formulas) → IsFormulaTable table → (node : Node) → FitsTable table node → (n : ℕ) (after : List Node) → with_item same_entered table.limit node table.nodes ≡ Some (n, after) → IsFormulaTable (record table { nodes = after })
 IsFormulaTable-node table is node fits = put_cases same_entered table.limit node table.nodes (λ _ after. IsFormulaTable (record table { nodes = after }))
     (λ _ _. is)
-    (λ fresh room. record {
-      earlier = λ n x at. ⊎_elim (is.earlier n x) (λ p. subst (λ (y : Node). All (λ part. part < n) (children_of y)) (sym p.1) (subst (λ (k : ℕ). All (λ part. part < k) (children_of node)) (sym p.0) (fits_earlier table node fits))) (push_cases table.nodes node n x at);
-      ascending = λ n left right positive at. ⊎_elim (is.ascending n left right positive) (λ p. subst (FitsTable table) (sym p.1) fits) (push_cases table.nodes node n (Equal positive left right) at);
-      once = once-push same_entered entered_told node table.nodes fresh is.once;
-      foralls_stand = λ n forall at. ⊎_elim (is.foralls_stand n forall) (λ p. subst (FitsTable table) (sym p.1) fits) (push_cases table.nodes node n (Forall forall) at);
-      foralls = is.foralls;
-      within = omega (arith, length-append table.nodes (node ∷ []));
-    })
+    (λ fresh room. IsFormulaTable-push table is node fits (absent same_entered entered_told node table.nodes fresh) room)

@@ -1,6 +1,7 @@
 -- A formula is entered in one way.
-use Rattle.std.proofs.Common.{◌≡◌, ℕ, ◌+◌, ◌<◌, ◌⊎◌, ◌↔◌, min, max, List, [], ◌∷◌, ◌++◌, length, map, get_or, slice_get, Some, Contains, refl, sym, ap, ap₂, subst, ◌∙◌, arith}
+use Rattle.std.proofs.Common.{◌≡◌, ◌≢◌, ℕ, ◌<◌, ◌↔◌, min, max, List, [], ◌∷◌, ◌++◌, length, map, slice_get, Some, Contains, refl, sym, ap, ap₂, subst, ◌∙◌, ⊎_elim, arith}
 use Rattle.std.specs.Prelude.{slice_index}
+use Rattle.std.proofs.lemmas.Bool.{cases_lt}
 use Rattle.std.proofs.lemmas.List.{same_lists}
 use Rattle.std.proofs.lemmas.List.Elements.{All-contains, Contains-get_or, Contains-append_right}
 use Rattle.std.proofs.lemmas.Option.{slice_get_within, get_or_from_slice_get}
@@ -9,23 +10,25 @@ use Rattle.term_table.specs.Questions.{AreAll}
 use Rattle.term_table.specs.Terms.{term_row, IsTable}
 use Rattle.term_table.specs.ListLaws.{element_at, place_from_Contains, Contains-slice_get}
 use Rattle.term_table.specs.OneListLaws.{one_list}
-use Rattle.formula_shape.specs.declared.shape_row.ShapeRow.{ShapeRow}
-use Rattle.formula_shape.specs.declared.shape_row.ShapeRow.TheVariants.{Var, App}
+use Rattle.formula_shape.specs.declared.shape_row.ShapeRow.TheVariants.{App}
 use Rattle.formula_shape.specs.declared.shape_node.ShapeNode.{ShapeNode}
 use Rattle.formula_shape.specs.declared.shape_node.ShapeNode.TheVariants.{Equal, Atom, And, Or, Forall}
-use Rattle.formula_shape.specs.ShapeNode.{foralls_of, parts_of}
+use Rattle.formula_shape.specs.ShapeNode.{parts_of}
 use Rattle.formula_shape.specs.Reach.{ReachesNode, ReachesRow}
 use Rattle.formula_shape.specs.Reach.ReachesNode.{itself, part_of_it}
 use Rattle.formula_shape.specs.Reach.ReachesRow.{named, argument}
-use Rattle.formula_shape.specs.ReachLaws.{row_stands, node_stands}
+use Rattle.formula_shape.specs.ReachLaws.{row_stands}
 use Rattle.formula_shape.specs.Draft.{Formula, IsFormula}
 use Rattle.formula_table.specs.declared.node.Node.{Node}
 use Rattle.formula_table.specs.declared.node.Node.TheVariants as entered
 use Rattle.formula_table.specs.declared.table_forall.TableForall.{TableForall}
+use Rattle.formula_table.specs.declared.enter_fault.EnterFault.{EnterFault}
+use Rattle.formula_table.specs.declared.enter_fault.EnterFault.TheVariants.{TermsFull, NodesFull, Memory}
 use Rattle.formula_table.specs.Formulas.{Formulas, IsFormulaTable}
 use Rattle.formula_table.specs.InOrder.{AreInOrder}
+use Rattle.formula_table.specs.BecomesLaws.{row_becomes, node_becomes, forall_stands}
 use Rattle.formula_table.specs.InOrderLaws.{one_in_order, full_stops}
-use Rattle.formula_table.specs.Entry.{BecomesRow, BecomesNode, EntersRows, EntersNodes, ReachesForall, RowsGrow, ForallsGrow, NodesGrow, FillsTerms, FillsNodes, Enters, LacksNodes, entered_row, entered_node}
+use Rattle.formula_table.specs.Entry.{BecomesRow, BecomesNode, ReachesForall, RowsGrow, ForallsGrow, NodesGrow, FillsTerms, FillsNodes, Enters, LacksNodes, StopsEntry, entered_row, entered_node}
 
 -- functions that agree on the elements make one list
 map_same : (f g : ℕ → ℕ) (xs : List ℕ) → ((x : ℕ) → Contains xs x → f x ≡ g x) → map f xs ≡ map g xs
@@ -33,26 +36,6 @@ map_same f g [] same = refl
 map_same f g (x ∷ xs) same = ap₂ (λ (y : ℕ) (ys : List ℕ). y ∷ ys) (same x (Contains-get_or (x ∷ xs) 0 x (omega arith))) (map_same f g xs (λ y c. same y (Contains-append_right (x ∷ []) xs y c)))
 
 module _ (formula : Formula) (is : IsFormula formula) where
-  -- a reached row becomes a row of a table
-  pub row_becomes : (terms : List ℕ) (n : ℕ) → ReachesRow formula.rows formula.nodes formula.root n → (x : TermRow) × BecomesRow formula terms n x
-  row_becomes terms n reach =
-      let at = element_at formula.rows n (row_stands formula.rows formula.nodes formula.foralls is.lawful formula.root is.root_stands reach) in
-      by at.0 at.1
-    where
-      by : (row : ShapeRow) → slice_get formula.rows n ≡ Some row → (x : TermRow) × BecomesRow formula terms n x
-      by (Var index) at = absurd (is.closed n index reach at)
-      by (App symbol args) at = (entered_row terms symbol args, record { symbol = symbol; args = args; reached = reach; stands = at; row_is = refl })
-
-  -- a reached node becomes a node of the table
-  pub node_becomes : (terms foralls numbers : List ℕ) (n : ℕ) → ReachesNode formula.nodes formula.root n → (x : Node) × BecomesNode formula terms foralls numbers n x
-  node_becomes terms foralls numbers n reach =
-      let at = element_at formula.nodes n (node_stands formula.rows formula.nodes formula.foralls is.lawful formula.root is.root_stands reach) in
-      (entered_node terms foralls numbers at.0, record { shape_node = at.0; reached = reach; stands = at.1; node_is = refl })
-
-  -- a reached forall stands
-  pub forall_stands : (index : ℕ) → ReachesForall formula index → index < length formula.foralls
-  forall_stands index reach = All-contains (λ n. n < length formula.foralls) (index ∷ []) index (is.lawful.nodes_fit reach.node (Forall index) reach.stands).foralls_stand (0, omega arith, refl)
-
   -- a row becomes the same over terms that agree on the earlier rows
   row_step : (terms others : List ℕ) (n : ℕ) → ((m : ℕ) (x : TermRow) → m < n → BecomesRow formula terms m x → slice_index terms m ≡ slice_index others m) → (x : TermRow) → BecomesRow formula terms n x ↔ BecomesRow formula others n x
   row_step terms others n agree x = (
@@ -63,7 +46,7 @@ module _ (formula : Formula) (is : IsFormula formula) where
       equal : (symbol : ℕ) (args : List ℕ) → ReachesRow formula.rows formula.nodes formula.root n → slice_get formula.rows n ≡ Some (App symbol args) → entered_row terms symbol args ≡ entered_row others symbol args
       equal symbol args reach at = ap (term_row symbol) (map_same (slice_index terms) (slice_index others) args (λ arg c.
           let lower : arg < n = All-contains (λ a. a < n) args arg (is.lawful.rows_fit n (App symbol args) at).args c in
-          let becomes = row_becomes terms arg (argument reach at c) in
+          let becomes = row_becomes formula is terms arg (argument reach at c) in
           agree arg becomes.0 lower becomes.1))
 
   module _ (rows : List TermRow) (table : IsTable rows) (limit : ℕ) where
@@ -72,16 +55,31 @@ module _ (formula : Formula) (is : IsFormula formula) where
     one_rows G H terms others one other =
         let first = subst (λ n. AreInOrder (BecomesRow formula terms) rows limit n one.added terms) one.all one.enters in
         let second = subst (λ n. AreInOrder (BecomesRow formula others) rows limit n other.added others) other.all other.enters in
-        let same = one_in_order (BecomesRow formula terms) (BecomesRow formula others) rows limit terms others table.once (row_step terms others) (length formula.rows) one.added other.added first second in
-        (same.0, λ n reach.
-        let becomes = row_becomes terms n reach in
-        same.1 n becomes.0 (row_stands formula.rows formula.nodes formula.foralls is.lawful formula.root is.root_stands reach) becomes.1)
+        let same = one_in_order (BecomesRow formula terms) (BecomesRow formula others) rows limit terms others table.once (row_step terms others) (length formula.rows) one.added other.added first second in (
+          same.0,
+          λ n reach.
+              let becomes = row_becomes formula is terms n reach in
+              same.1 n becomes.0 (row_stands formula.rows formula.nodes formula.foralls is.lawful formula.root is.root_stands reach) becomes.1,
+        )
 
     -- where there is no room for a term, not all rows are entered
     pub full_terms_not_grown : (G H : List TermRow → Type 0) (terms : List ℕ) → FillsTerms G formula rows limit → RowsGrow H formula rows limit terms → ⊥
     full_terms_not_grown G H terms fills grows =
         let within = slice_get_within formula.rows (length fills.terms) (App fills.full.1.symbol fills.full.1.args) fills.full.1.stands in
         full_stops (BecomesRow formula fills.terms) (BecomesRow formula terms) rows limit fills.terms terms table.once (row_step fills.terms terms) (length fills.terms) (length terms) fills.added grows.added fills.enters fills.full (omega (arith, within, grows.all)) grows.enters
+
+    -- and it stops behind the same terms
+    pub full_terms_added : (G H : List TermRow → Type 0) (one : FillsTerms G formula rows limit) (other : FillsTerms H formula rows limit) → one.added ≡ other.added
+    full_terms_added G H one other = ⊎_elim
+        (λ less. absurd (full_stops (BecomesRow formula one.terms) (BecomesRow formula other.terms) rows limit one.terms other.terms table.once (row_step one.terms other.terms) (length one.terms) (length other.terms) one.added other.added one.enters one.full less other.enters))
+        (λ not_less. ⊎_elim
+        (λ more. absurd (full_stops (BecomesRow formula other.terms) (BecomesRow formula one.terms) rows limit other.terms one.terms table.once (row_step other.terms one.terms) (length other.terms) (length one.terms) other.added one.added other.enters other.full more one.enters))
+        (λ not_more.
+        let counts : length other.terms ≡ length one.terms = omega (arith, not_less, not_more) in
+        let second = subst (λ n. AreInOrder (BecomesRow formula other.terms) rows limit n other.added other.terms) counts other.enters in
+        (one_in_order (BecomesRow formula one.terms) (BecomesRow formula other.terms) rows limit one.terms other.terms table.once (row_step one.terms other.terms) (length one.terms) one.added other.added one.enters second).0)
+        (cases_lt (length other.terms) (length one.terms)))
+        (cases_lt (length one.terms) (length other.terms))
 
   -- all foralls are entered in one way
   module _ (old added more : List TableForall) (numbers others : List ℕ) (one : ForallsGrow formula old added numbers) (other : ForallsGrow formula old more others) where
@@ -108,7 +106,7 @@ module _ (formula : Formula) (is : IsFormula formula) where
           let same = both_say k thing.0 thing.1 (omega (arith, reached.0, one.all)) in
           get_or_from_slice_get added k item.0 d item.1 ∙ sym (get_or_from_slice_get more k item.0 d (sym same.1 ∙ item.1))),
       λ index reach.
-          let stands = forall_stands index reach in
+          let stands = forall_stands formula is index reach in
           let place = place_from_Contains one.enters.reached index ((one.enters.all.exact index).1 (omega (arith, stands, one.all), reach)) in
           (both_say place.0 index place.1 stands).0,
     )
@@ -134,7 +132,7 @@ module _ (formula : Formula) (is : IsFormula formula) where
         equal : (node : ShapeNode) → ReachesNode formula.nodes formula.root n → slice_get formula.nodes n ≡ Some node → entered_node terms foralls numbers node ≡ entered_node other_terms other_foralls others node
         equal node reach at = entered_same numbers others n node reach at (λ part c.
             let lower : part < n = All-contains (λ p. p < n) (parts_of node) part (is.lawful.nodes_fit n node at).parts_stand c in
-            let becomes = node_becomes terms foralls numbers part (part_of_it reach at c) in
+            let becomes = node_becomes formula is terms foralls numbers part (part_of_it reach at c) in
             agree part becomes.0 lower becomes.1)
 
     module _ (old : Formulas) (table : IsFormulaTable old) where
@@ -146,7 +144,7 @@ module _ (formula : Formula) (is : IsFormula formula) where
           let first = subst (λ n. AreInOrder P old.nodes old.limit n added one.numbers) one.all one.enters in
           let second = subst (λ n. AreInOrder Q old.nodes old.limit n more other.numbers) other.all other.enters in
           let same = one_in_order P Q old.nodes old.limit one.numbers other.numbers table.once (node_step one.numbers other.numbers) (length formula.nodes) added more first second in
-          let becomes = node_becomes terms foralls one.numbers formula.root itself in
+          let becomes = node_becomes formula is terms foralls one.numbers formula.root itself in
           (same.0, sym (get_or_from_slice_get one.numbers formula.root number 0 one.root) ∙ same.1 formula.root becomes.0 is.root_stands becomes.1 ∙ get_or_from_slice_get other.numbers formula.root other_number 0 other.root)
 
       -- where there is no room for a node, not all nodes are entered
@@ -154,6 +152,12 @@ module _ (formula : Formula) (is : IsFormula formula) where
       full_nodes_not_grown more number fills grows =
           let within = slice_get_within formula.nodes (length fills.numbers) fills.full.1.shape_node fills.full.1.stands in
           full_stops (BecomesNode formula terms foralls fills.numbers) (BecomesNode formula other_terms other_foralls grows.numbers) old.nodes old.limit fills.numbers grows.numbers table.once (node_step fills.numbers grows.numbers) (length fills.numbers) (length grows.numbers) fills.added more fills.enters fills.full (omega (arith, within, grows.all)) grows.enters
+
+-- the same terms were added in both ways
+pub record OneGrowth (G H : List TermRow → Type 0) : Type 0 where
+  pub added : List TermRow
+  pub grew : G added
+  pub also : H added
 
 -- the same terms were added in both ways, and the same table and number came of it
 pub record OneEntry (G H : List TermRow → Type 0) (new other : Formulas) (number other_number : ℕ) : Type 0 where
@@ -199,3 +203,36 @@ module _ (G H : List TermRow → Type 0) (formula : Formula) (is : IsFormula for
       let two = enters.table_grows in
       let foralls = one_foralls formula is old.foralls one.foralls two.foralls one.forall_numbers two.forall_numbers one.foralls_grow two.foralls_grow in
       full_nodes_not_grown formula is lacks.terms enters.terms one.forall_numbers two.forall_numbers terms.1 foralls.1 old is_table two.nodes number one.fills two.nodes_grow
+
+  -- where there is no room for the terms, the same ones were added
+  pub full_terms_once : FillsTerms G formula rows limit → FillsTerms H formula rows limit → OneGrowth G H
+  full_terms_once one other = record { added = one.added; grew = one.grew; also = subst H (sym (full_terms_added formula is rows table limit G H one other)) other.grew }
+
+  -- and so where there is no room for the nodes
+  pub lacking_nodes_once : LacksNodes G formula rows limit old → LacksNodes H formula rows limit old → OneGrowth G H
+  lacking_nodes_once one other =
+      let terms = one_rows formula is rows table limit G H one.terms other.terms one.rows_grow other.rows_grow in
+      record { added = one.rows_grow.added; grew = one.rows_grow.grew; also = subst H (sym terms.0) other.rows_grow.grew }
+
+-- but for want of memory, a formula that is entered is not refused
+pub stopped_not_entered : (G H refused : List TermRow → Type 0) (formula : Formula) → IsFormula formula → (rows : List TermRow) → IsTable rows → (limit : ℕ) (old : Formulas) → IsFormulaTable old → (new : Formulas) (number : ℕ) (fault : EnterFault) → (fault ≢ Memory) → StopsEntry G refused formula rows limit old fault → Enters H formula rows limit old new number → ⊥
+stopped_not_entered G H refused formula is rows table limit old is_table new number TermsFull not stops enters = full_terms_not_entered G H formula is rows table limit old is_table new number stops enters
+stopped_not_entered G H refused formula is rows table limit old is_table new number NodesFull not stops enters = lacking_nodes_not_entered G H formula is rows table limit old is_table new number stops enters
+stopped_not_entered G H refused formula is rows table limit old is_table new number Memory not stops enters = not refl
+
+-- but for want of memory, a formula is refused in one way
+pub stops_once : (G H refused others : List TermRow → Type 0) (formula : Formula) → IsFormula formula → (rows : List TermRow) → IsTable rows → (limit : ℕ) (old : Formulas) → IsFormulaTable old → (fault other : EnterFault) → (fault ≢ Memory) → (other ≢ Memory) → StopsEntry G refused formula rows limit old fault → StopsEntry H others formula rows limit old other → (fault ≡ other) × OneGrowth G H
+stops_once G H refused others formula is rows table limit old is_table TermsFull TermsFull not also one two = (refl, full_terms_once G H formula is rows table limit old is_table one two)
+stops_once G H refused others formula is rows table limit old is_table TermsFull NodesFull not also one two = absurd (full_terms_not_lacking G H formula is rows table limit old is_table one two)
+stops_once G H refused others formula is rows table limit old is_table NodesFull TermsFull not also one two = absurd (full_terms_not_lacking H G formula is rows table limit old is_table two one)
+stops_once G H refused others formula is rows table limit old is_table NodesFull NodesFull not also one two = (refl, lacking_nodes_once G H formula is rows table limit old is_table one two)
+stops_once G H refused others formula is rows table limit old is_table TermsFull Memory not also one two = absurd (also refl)
+stops_once G H refused others formula is rows table limit old is_table NodesFull Memory not also one two = absurd (also refl)
+stops_once G H refused others formula is rows table limit old is_table Memory other not also one two = absurd (not refl)
+
+-- where what grows is told by the rows that were added, the same comes of both ways
+pub enters_once-into : {State : Type 0} (grow : List TermRow → State) (later also : State) (formula : Formula) → IsFormula formula → (rows : List TermRow) → IsTable rows → (limit : ℕ) (old : Formulas) → IsFormulaTable old → (new other : Formulas) (number other_number : ℕ)
+    → Enters (λ more. later ≡ grow more) formula rows limit old new number → Enters (λ more. also ≡ grow more) formula rows limit old other other_number → (later ≡ also) × (new ≡ other) × (number ≡ other_number)
+enters_once-into grow later also formula is rows table limit old is_table new other number other_number first second =
+    let one = enters_once (λ more. later ≡ grow more) (λ more. also ≡ grow more) formula is rows table limit old is_table new other number other_number first second in
+    (one.grew ∙ sym one.also, one.table_is, one.number_is)

@@ -9,7 +9,7 @@ use Rattle.formula_table.specs.declared.enter_fault.EnterFault.{EnterFault}
 use Rattle.formula_table.specs.declared.enter_fault.EnterFault.TheVariants.{TermsFull, NodesFull, Memory}
 use Rattle.formula_shape.specs.Items.{with_item}
 use Rattle.formula_table.specs.InOrder.{StandsNowhere}
-use Rattle.formula_table.specs.Node.{children_of, same_entered}
+use Rattle.formula_table.specs.Node.{children_of, terms_in, same_entered}
 
 -- nodes and foralls by number, and how many nodes there may be
 pub record Formulas : Type 0 where
@@ -45,6 +45,10 @@ pub record IsFormulaTable (table : Formulas) : Type 0 where
   pub foralls_stand : (n forall : ℕ) → slice_get table.nodes n ≡ Some (Forall forall) → forall < length table.foralls
   pub foralls : (n : ℕ) (forall : TableForall) → slice_get table.foralls n ≡ Some forall → IsForallOf n forall
   pub within : length table.nodes ≤ table.limit
+
+-- the terms of each node are among the first so many
+abbrev pub NodesStand : ℕ → List Node → Type 0
+NodesStand terms nodes = (n : ℕ) (node : Node) → slice_get nodes n ≡ Some node → All (λ term. term < terms) (terms_in node)
 
 -- none of the first nodes names a later forall
 abbrev pub NamesFirst : Formulas → ℕ → ℕ → Type 0

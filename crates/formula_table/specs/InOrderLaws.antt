@@ -1,8 +1,8 @@
 -- Things become items, one after another, in one way.
-use Rattle.std.proofs.Common.{◌≡◌, ℕ, zero, suc, ◌+◌, ◌-◌, ◌<◌, ◌≤◌, ◌⊎◌, ◌↔◌, List, [], ◌∷◌, ◌++◌, length, get_or, slice_get, Some, refl, sym, ap, subst, ◌∙◌, inl, inr, ⊎_elim, append-nil, append_assoc, arith}
+use Rattle.std.proofs.Common.{◌≡◌, ℕ, zero, suc, ◌+◌, ◌-◌, ◌<◌, ◌≤◌, ◌⊎◌, ◌↔◌, List, [], ◌∷◌, ◌++◌, length, get_or, slice_get, Some, refl, sym, ap, subst, ◌∙◌, inl, inr, ⊎_elim, append_assoc, arith}
 use Rattle.std.specs.Prelude.{slice_index}
 use Rattle.std.proofs.lemmas.Bool.{cases_lt}
-use Rattle.std.proofs.lemmas.List.{length-append, get_or_append_left, get_or_at}
+use Rattle.std.proofs.lemmas.List.{length-append, get_or_append_left}
 use Rattle.std.proofs.lemmas.Option.{none-some, same_Some, slice_get_within, get_or_from_slice_get}
 use Rattle.term_table.specs.ListLaws.{slice_get-append_left, slice_get-push, push_cases, element_at}
 use Rattle.formula_shape.specs.ReachLaws.{back}
@@ -27,7 +27,7 @@ module _ {X : Type 0} where
 
   module _ (Becomes : ℕ → X → Type 0) (items : List X) (limit : ℕ) (numbers : List ℕ) where
     -- before the first thing nothing was added
-    none_added : (added : List X) → AreInOrder Becomes items limit 0 added numbers → added ≡ []
+    pub none_added : (added : List X) → AreInOrder Becomes items limit 0 added numbers → added ≡ []
     none_added added is = ⊎_elim (λ none. none)
         (λ more.
         let item : slice_get added (length more.0) ≡ Some more.1 = ap (λ xs. slice_get xs (length more.0)) more.2 ∙ slice_get-push more.0 more.1 in
@@ -156,7 +156,11 @@ module _ {X : Type 0} where
               puts earlier last things_are (omega (arith, not_less, was.0)) more.0 more.1 more.2)
               (last_cases added)
 
-    -- so it was for fewer things
+    -- as many items stand as may, at most
+    pub still_within : (n : ℕ) (added : List X) → AreInOrder Becomes items limit n added numbers → length items ≤ limit → length (items ++ added) ≤ limit
+    still_within n added is within = ⊎_elim (λ none. omega (arith, none, within, length-append items added)) (λ room. omega (arith, room, length-append items added)) is.room
+
+    -- things that became items in order did so when there were fewer of them
     pub cut_back : (b d : ℕ) (added : List X) → AreInOrder Becomes items limit (b + d) added numbers → (front : List X) × AreInOrder Becomes items limit b front numbers
     cut_back b zero added is = let same : b + 0 ≡ b = omega arith in (added, subst (λ n. AreInOrder Becomes items limit n added numbers) same is)
     cut_back b (suc d) added is =
@@ -186,13 +190,18 @@ module _ {X : Type 0} (P Q : ℕ → X → Type 0) (items : List X) (limit : ℕ
       (λ not_earlier. let at : m ≡ n = omega (arith, less, not_earlier) in subst (λ k. slice_index numbers k ≡ slice_index others k) (sym at) (here x (subst (λ k. P k x) at becomes)))
       (cases_lt m n)
 
-  module _ (n : ℕ) (xs ys : List X) (is : AreInOrder P items limit (suc n) xs numbers) (or : AreInOrder Q items limit (suc n) ys others) where
+  module _ (n : ℕ) (xs ys : List X) (is : AreInOrder P items limit (suc n) xs numbers) (second : AreInOrder Q items limit (suc n) ys others) where
+    -- the last thing added nothing in either way
     both_kept : AreInOrder P items limit n xs numbers → (xs ≡ ys) × Agree n → (xs ≡ ys) × Agree (suc n)
-    both_kept kept same = (same.0, next_agree n same.1 (λ x becomes.
-        let one = is.stand n x (omega arith) becomes in
-        let other = or.stand n x (omega arith) ((step n same.1 x).0 becomes) in
-        stand_once P items limit numbers once n xs kept (slice_index numbers n) (slice_index others n) x one (ap (λ zs. slice_get (items ++ zs) (slice_index others n)) same.0 ∙ other)))
+    both_kept kept same = (
+      same.0,
+      next_agree n same.1 (λ x becomes.
+          let one = is.stand n x (omega arith) becomes in
+          let other = second.stand n x (omega arith) ((step n same.1 x).0 becomes) in
+          stand_once P items limit numbers once n xs kept (slice_index numbers n) (slice_index others n) x one (ap (λ zs. slice_get (items ++ zs) (slice_index others n)) same.0 ∙ other)),
+    )
 
+    -- it put an item last in both ways
     both_put : (one : PutLast P items limit n xs numbers) (other : PutLast Q items limit n ys others) → (one.front ≡ other.front) × Agree n → (xs ≡ ys) × Agree (suc n)
     both_put one other same =
         let becomes = (step n same.1 other.item).1 other.becomes in
@@ -201,35 +210,36 @@ module _ {X : Type 0} (P Q : ℕ → X → Type 0) (items : List X) (limit : ℕ
           next_agree n same.1 (λ x b. one.number_is ∙ ap (λ zs. length (items ++ zs)) same.0 ∙ sym other.number_is),
         )
 
+    -- it put an item last in one way alone
     not_second : (other : PutLast Q items limit n ys others) → (xs ≡ other.front) × Agree n → ⊥
     not_second other same = other.nowhere (slice_index numbers n) (ap (λ zs. slice_get (items ++ zs) (slice_index numbers n)) (sym same.0) ∙ is.stand n other.item (omega arith) ((step n same.1 other.item).1 other.becomes))
 
     not_first : (one : PutLast P items limit n xs numbers) → (one.front ≡ ys) × Agree n → ⊥
-    not_first one same = one.nowhere (slice_index others n) (ap (λ zs. slice_get (items ++ zs) (slice_index others n)) same.0 ∙ or.stand n one.item (omega arith) ((step n same.1 one.item).0 one.becomes))
+    not_first one same = one.nowhere (slice_index others n) (ap (λ zs. slice_get (items ++ zs) (slice_index others n)) same.0 ∙ second.stand n one.item (omega arith) ((step n same.1 one.item).0 one.becomes))
 
   -- the same items are added, and the things get the same numbers
   pub one_in_order : (n : ℕ) (xs ys : List X) → AreInOrder P items limit n xs numbers → AreInOrder Q items limit n ys others → (xs ≡ ys) × ((m : ℕ) (x : X) → m < n → P m x → slice_index numbers m ≡ slice_index others m)
-  one_in_order zero xs ys is or = (none_added P items limit numbers xs is ∙ sym (none_added Q items limit others ys or), λ m x less. absurd (omega (arith, less)))
-  one_in_order (suc n) xs ys is or = ⊎_elim
+  one_in_order zero xs ys is second = (none_added P items limit numbers xs is ∙ sym (none_added Q items limit others ys second), λ m x less. absurd (omega (arith, less)))
+  one_in_order (suc n) xs ys is second = ⊎_elim
       (λ kept. ⊎_elim
-      (λ also. both_kept n xs ys is or kept (one_in_order n xs ys kept also))
-      (λ put. absurd (not_second n xs ys is or put (one_in_order n xs put.front kept put.before)))
-      (last_step Q items limit others n ys or))
+      (λ also. both_kept n xs ys is second kept (one_in_order n xs ys kept also))
+      (λ put. absurd (not_second n xs ys is second put (one_in_order n xs put.front kept put.before)))
+      (last_step Q items limit others n ys second))
       (λ put. ⊎_elim
-      (λ also. absurd (not_first n xs ys is or put (one_in_order n put.front ys put.before also)))
-      (λ other. both_put n xs ys is or put other (one_in_order n put.front other.front put.before other.before))
-      (last_step Q items limit others n ys or))
+      (λ also. absurd (not_first n xs ys is second put (one_in_order n put.front ys put.before also)))
+      (λ other. both_put n xs ys is second put other (one_in_order n put.front other.front put.before other.before))
+      (last_step Q items limit others n ys second))
       (last_step P items limit numbers n xs is)
 
   -- where a thing has no room, no more things were entered
   pub full_stops : (b c : ℕ) (xs ys : List X) → AreInOrder P items limit b xs numbers → IsFullFor (P b) (items ++ xs) limit → b < c → AreInOrder Q items limit c ys others → ⊥
-  full_stops b c xs ys is full less or = at_next cut.0 cut.1
+  full_stops b c xs ys is full less second = at_next cut.0 cut.1
     where
       far : suc b + (c - suc b) ≡ c
       far = omega (arith, less)
 
       cut : (front : List X) × AreInOrder Q items limit (suc b) front others
-      cut = cut_back Q items limit others (suc b) (c - suc b) ys (subst (λ n. AreInOrder Q items limit n ys others) (sym far) or)
+      cut = cut_back Q items limit others (suc b) (c - suc b) ys (subst (λ n. AreInOrder Q items limit n ys others) (sym far) second)
 
       at_next : (front : List X) → AreInOrder Q items limit (suc b) front others → ⊥
       at_next front next = ⊎_elim

@@ -12,6 +12,14 @@ children_of (And parts) = parts
 children_of (Or parts) = parts
 children_of (Forall forall) = []
 
+-- the terms that a node names
+abbrev pub terms_in : Node → List ℕ
+terms_in (Equal positive left right) = left ∷ right ∷ []
+terms_in (Atom positive term) = term ∷ []
+terms_in (And parts) = []
+terms_in (Or parts) = []
+terms_in (Forall forall) = []
+
 -- whether the nodes are equal
 abbrev pub same_entered : Node → Node → Bool
 same_entered (Equal a s t) (Equal b u v) = same_sign a b && (nat_eq s u && nat_eq t v)

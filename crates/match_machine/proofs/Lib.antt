@@ -1,4 +1,3 @@
-pub mod SameContents
 pub mod NthLemmas
 pub mod StepLemmas
 pub mod SpreadLemmas

@@ -6,18 +6,17 @@ pub mod arrange;
 pub mod batch;
 mod choices;
 pub mod entry_matches;
-pub mod found;
+mod found;
 pub mod holds;
 pub mod item;
 pub mod run;
 mod task;
 mod values;
-pub mod walk;
+mod walk;
 
 pub use answer::Answer;
 pub use batch::Batch;
 pub use entry_matches::EntryMatches;
-pub use found::Found;
 pub use item::Item;
 
 #[cfg(test)]

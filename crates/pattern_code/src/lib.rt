@@ -2,6 +2,7 @@
 #![tactic(auto)]
 
 pub mod code;
+pub mod laws;
 mod layout;
 
 pub use code::{Code, Instr};

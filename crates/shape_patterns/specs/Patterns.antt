@@ -14,6 +14,7 @@ abbrev pub sizes_after : List ℕ → List ShapeRow → List ℕ
 sizes_after sizes [] = sizes
 sizes_after sizes (next ∷ rows) = sizes_after (sizes ++ suc (sum_by (λ arg. get_or sizes arg 0) (args_of next)) ∷ []) rows
 
+-- how many symbols and variables a row has as a tree
 abbrev pub size_of : List ShapeRow → ℕ → ℕ
 size_of rows row = get_or (sizes_after [] rows) row 0
 
@@ -49,6 +50,7 @@ pub record Kept : Type 0 where
 abbrev pub numbered : List ℕ → List ℕ → List ℕ
 numbered numbers rows = map (λ row. get_or numbers row 0) rows
 
+-- a row with new numbers
 abbrev pub renumbered : List ℕ → ShapeRow → PatternRow
 renumbered numbers (Var index) = pattern.Var index
 renumbered numbers (App symbol args) = pattern.App symbol (numbered numbers args)
@@ -63,18 +65,20 @@ abbrev pub kept_after : List Bool → Kept → List ShapeRow → Kept
 kept_after marks kept [] = kept
 kept_after marks kept (row ∷ rows) = kept_after marks (kept_if (get_or marks (length kept.numbers) false) kept row) rows
 
--- what is kept so far
-abbrev pub kept_so : Keeping → Kept
-kept_so keeping = record { numbers = keeping.numbers.items; rows = keeping.rows }
-
+-- the rows of these that the roots reach
 abbrev pub kept_of : List ShapeRow → List ℕ → Kept
 kept_of rows roots = kept_after (reached_from rows roots) (record { numbers = []; rows = [] }) rows
+
+-- what is kept so far by the code
+abbrev pub kept_so : Keeping → Kept
+kept_so keeping = record { numbers = keeping.numbers.items; rows = keeping.rows }
 
 -- The trigger of these roots, with so many variables. It is numbered where the formula is entered.
 abbrev pub trigger_of : ℕ → List ShapeRow → List ℕ → Trigger
 trigger_of variables rows roots = let kept = kept_of rows roots in
     record { forall = 0; place = 0; variables = variables; rows = kept.rows; roots = numbered kept.numbers roots }
 
+-- the row is this variable
 abbrev pub is_variable : ℕ → PatternRow → Bool
 is_variable index (pattern.Var i) = i == index
 is_variable index (pattern.App symbol args) = false

@@ -16,10 +16,12 @@ abbrev pub positive_row : ShapeNode → Option ℕ
 positive_row (Atom true r) = Some r
 positive_row itself = None
 
+-- the row of an atom, which must be there
 abbrev pub atom_row : Place → Option ℕ → Making ℕ
 atom_row at None = refuse PatternHasConnective at
 atom_row at (Some r) = made r
 
+-- the row of a term, which must not be a variable
 abbrev pub no_variable : Place → ℕ → ShapeRow → Making ℕ
 no_variable at r (Var index) = refuse PatternIsVariable at
 no_variable at r (App symbol args) = made r

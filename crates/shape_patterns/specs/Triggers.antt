@@ -14,6 +14,7 @@ each_occurs at trigger index (b ∷ variables) = do
   want_named (occurs trigger index) PatternWithoutVariable at b.name
   each_occurs at trigger (index + 1) variables
 
+-- the trigger of these roots among the rows that stand, with so many variables
 abbrev pub trigger_made : ℕ → List ℕ → Making Trigger
 trigger_made variables roots draft = made (trigger_of variables draft.rows roots) draft
 

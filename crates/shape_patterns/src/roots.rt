@@ -16,7 +16,7 @@ fn atom_row_of(node: &ShapeNode) -> Option<u32>
     ensures { result ≡ positive_row node.now }
 {
     match node {
-        ShapeNode::Atom { positive, row } => { if *positive { Some(*row) } else { None } }
+        ShapeNode::Atom { positive, row } => positive.then_some(*row),
         ShapeNode::Equal { .. } => None,
         ShapeNode::And { .. } => None,
         ShapeNode::Or { .. } => None,

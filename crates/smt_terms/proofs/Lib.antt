@@ -4,3 +4,4 @@ pub mod Machines
 pub mod Openings
 pub mod Walks
 pub mod ForallLemmas
+pub mod TriggerLemmas

@@ -1,7 +1,7 @@
 pub mod Meant
-pub mod Patterns
 pub mod Terms
 pub mod Cursor
 pub mod Machine
 pub mod Checks
 pub mod Bodies
+pub mod Triggers

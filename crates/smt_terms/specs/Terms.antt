@@ -1,14 +1,12 @@
 -- Terms and formulas: what each token and each list means.
-use Rattle.std.specs.Prelude.{ℕ, ◌+◌, Bool, true, false, cond, not, ◌&&◌, ◌||◌, nat_le, ◌==◌, if◌then◌else◌, List, [], ◌∷◌, ◌++◌, length, get_or, Option, Some, None, is_some, bytes_eq, codes}
+use Rattle.std.specs.Prelude.{ℕ, ◌+◌, Bool, true, false, cond, not, ◌&&◌, ◌||◌, ◌==◌, if◌then◌else◌, List, [], ◌∷◌, ◌++◌, length, Option, Some, None, is_some, bytes_eq, codes}
 use Rattle.smt_text.specs.Word.{Word}
 use Rattle.smt_text.specs.declared.token.Kind.TheVariants.{Left, Right, Symbol, Keyword}
 use Rattle.smt_text.specs.declared.token.Place.{Place}
 use Rattle.smt_text.specs.Trees as trees
 use Rattle.term_table.specs.declared.trigger.Trigger.{Trigger}
-use Rattle.formula_shape.specs.declared.shape_row.ShapeRow.{ShapeRow}
-use Rattle.formula_shape.specs.declared.shape_row.ShapeRow.TheVariants.{Var, App}
-use Rattle.formula_shape.specs.declared.shape_node.ShapeNode.{ShapeNode}
-use Rattle.formula_shape.specs.declared.shape_node.ShapeNode.TheVariants.{Atom, And, Forall}
+use Rattle.formula_shape.specs.declared.shape_row.ShapeRow.TheVariants.{Var}
+use Rattle.formula_shape.specs.declared.shape_node.ShapeNode.TheVariants.{Forall}
 use Rattle.formula_shape.specs.Draft.{shape_forall}
 use Rattle.smt_names.specs.declared.value.Value.{Value}
 use Rattle.smt_names.specs.declared.value.Value.TheVariants.{Term, Formula}
@@ -18,13 +16,14 @@ use Rattle.smt_names.specs.declared.stands.Stands.{Stands}
 use Rattle.smt_names.specs.declared.stands.Stands.TheVariants.{Given, Variable}
 use Rattle.smt_names.specs.declared.refusal.Refusal.TheVariants as refusal
 use Rattle.smt_names.specs.Value.{sort_of, self}
-use Rattle.smt_names.specs.Making.{Making, made, ◌>>=◌, ◌>>◌, want, want_named, refuse, refuse_named, bad_form, not_in_profile, row, node, put_forall}
+use Rattle.smt_names.specs.Making.{Making, made, ◌>>=◌, ◌>>◌, want, refuse_named, bad_form, not_in_profile, row, node, put_forall}
 use Rattle.smt_names.specs.Names.{State, Scope, bound_as, Named, Unknown, named, is_reserved, is_symbol, is_keyword}
 use Rattle.smt_forms.specs.Applied.{applied}
+use Rattle.shape_patterns.specs.Roots.{small_root}
+use Rattle.shape_patterns.specs.Triggers.{rooted_trigger}
 use Rattle.smt_terms.specs.declared.form.Form.{Form}
 use Rattle.smt_terms.specs.declared.form.Form.TheVariants.{Let, Annotated, Universal, Foreign, Application}
 use Rattle.smt_terms.specs.Meant.{Meaning, Meant, End, Token, Group, from, first_place, no_more, at_least, exactly, Listed, other_sort, some_bindings, no_binding, attributes_of}
-use Rattle.smt_terms.specs.Patterns.{size_of, trigger_of, occurs}
 
 -- Tokens.
 -- what a bound name stands for; inside a forall a formula must have a complement
@@ -156,34 +155,11 @@ body_of so_far (Group paren meaning (Token head parts) trees) =
     (made (record { patterns = so_far; tree = Group paren meaning (Token head parts) trees }))
 body_of so_far trees = made (record { patterns = so_far; tree = trees })
 
--- the row of a positive atom
-abbrev pub positive_row : ShapeNode → Option ℕ
-positive_row (Atom true r) = Some r
-positive_row itself = None
-
-abbrev pub atom_row : Place → Option ℕ → Making ℕ
-atom_row at None = refuse refusal.PatternHasConnective at
-atom_row at (Some r) = made r
-
-abbrev pub no_variable : Place → ℕ → ShapeRow → Making ℕ
-no_variable at r (Var index) = refuse refusal.PatternIsVariable at
-no_variable at r (App symbol args) = made r
-
--- the row of a pattern whose value is this
-abbrev pub root_of : Place → Value → Making ℕ
-root_of at (Term r sort) draft = no_variable at r (get_or draft.rows r (Var 0)) draft
-root_of at (Formula n c) draft = atom_row at (positive_row (get_or draft.nodes n (And []))) draft
-
--- at most 256 symbols and variables, counted as a tree
-abbrev pub small_enough : Place → ℕ → Making (Unit {0})
-small_enough at r draft = want (nat_le (size_of draft.rows r) 256) refusal.PatternTooLarge at draft
-
+-- the row of a pattern with this meaning
 abbrev pub pattern_root : Place → Making Value → Making ℕ
 pattern_root at meaning = do
   v ← meaning
-  r ← root_of at v
-  small_enough at r
-  made r
+  small_root at v
 
 abbrev pub add_root : Making ℕ → Making (List ℕ) → Making (List ℕ)
 add_root first others = do
@@ -196,16 +172,6 @@ abbrev pub pattern_roots : Scope → Meant → Making (List ℕ)
 pattern_roots scope End = made []
 pattern_roots scope (Token word trees) = add_root (pattern_root word.place (token_value scope word)) (pattern_roots scope trees)
 pattern_roots scope (Group paren meaning inner trees) = add_root (pattern_root paren.place (meaning scope)) (pattern_roots scope trees)
-
--- each variable, from this index on, occurs in the trigger
-abbrev pub each_occurs : Place → Trigger → ℕ → List Bound → Making (Unit {0})
-each_occurs at trigger index [] = made tt
-each_occurs at trigger index (b ∷ variables) = do
-  want_named (occurs trigger index) refusal.PatternWithoutVariable at b.name
-  each_occurs at trigger (index + 1) variables
-
-abbrev pub trigger_made : ℕ → List ℕ → Making Trigger
-trigger_made variables roots draft = made (trigger_of variables draft.rows roots) draft
 
 -- the list of patterns that must stand behind the keyword
 abbrev pub pattern_list : Place → Meant → Making Listed
@@ -220,9 +186,7 @@ trigger scope variables attribute = do
   at_least 1 listed.paren.place listed.inner
   no_more refusal.TooManyPatterns (from 16 listed.inner)
   roots ← pattern_roots scope listed.inner
-  made_so ← trigger_made (length variables) roots
-  each_occurs listed.paren.place made_so 0 variables
-  made made_so
+  rooted_trigger variables listed.paren.place roots
 
 abbrev pub triggers : Scope → List Bound → List Attribute → Making (List Trigger)
 triggers scope variables [] = made []

@@ -1,6 +1,8 @@
 //! Foralls: their variables, their bodies and what is round them.
-ghost use Rattle.std.specs.Prelude.{◌≡◌, ◌+◌, ◌++◌, [], OnOk};
-ghost use Rattle.smt_names.specs.Makes.{Checks};
+ghost use Rattle.std.specs.Prelude.{◌≡◌, ◌+◌, ◌++◌, ◌∷◌, [], OnOk};
+ghost use Rattle.smt_names.specs.Makes.{Checks, MakesItems};
+ghost use Rattle.smt_names.specs.Names.{bound_of};
+ghost use Rattle.formula_shape.specs.Draft.{Draft};
 ghost use Rattle.smt_terms.specs.Meant.{from, no_binding, other_sort};
 ghost use Rattle.smt_terms.specs.Terms.{attribute_if, body_of, is_annotation, is_pattern_key, patterns_in, variables_from};
 ghost use Rattle.smt_terms.specs.Cursor.{word_at, here};
@@ -8,10 +10,11 @@ ghost use Rattle.smt_terms.specs.Bodies.{attribute_at, attributes_at, IsAnnotate
 
 use crate::checks::check_attributes;
 use crate::cursor::{Seen, behind_one, behind_some, binding_at, kind_at, look, place_at, text_at};
-use smt_names::{BoundNames, Refusal, SessionState, Stands, Stop, is_keyword, is_symbol};
+use crate::giving::bind_all;
+use smt_names::{Bound, BoundNames, Refusal, SessionState, Stands, Stop, is_keyword, is_symbol};
 use smt_text::{Place, Tree};
 use std::alloc::Global;
-use term_table::Memory;
+use term_table::{Memory, Name};
 
 /// Refuses a binding that comes next, at its name.
 fn check_no_binding(alloc: Global, tree: &Tree, i: u32, refusal: Refusal) -> Result<(), Stop>
@@ -55,16 +58,30 @@ pub fn other_sort_at(
     }
 }
 
+/// Puts a variable last.
+fn push_variable(
+    alloc: Global,
+    variables: &mut Vec<Bound>,
+    name: &[u8],
+    stands: Stands,
+) -> Result<(), Memory>
+    ensures { OnOk result (variables.new.items ≡ variables.old.items ++ bound_of name.now stands ∷ []) }
+{
+    let name = Name::from_slice(alloc, name)?;
+    variables.push(Bound { name, stands })?;
+    Ok(())
+}
+
 /// The variables of the bindings that come next, whose form is right.
-pub fn read_variables(
+pub(crate) fn variables_at(
     alloc: Global,
     state: &SessionState,
     tree: &Tree,
     i: u32,
-) -> Result<BoundNames, Stop>
-    ensures { Checks result (variables_from state.now 0 (here tree.now i)) }
+) -> Result<Vec<Bound>, Stop>
+    ensures { (draft : Draft) → MakesItems result draft draft (variables_from state.now 0 (here tree.now i)) }
 {
-    let mut variables = BoundNames::new(alloc);
+    let mut variables = Vec::new(alloc);
     let mut index = 0;
     let mut at = i;
     loop {
@@ -79,12 +96,36 @@ pub fn read_variables(
                             return Err(Stop::Memory);
                         }
                         let name = text_at(tree, binding.name);
-                        variables.push(name, Stands::Variable { index, sort })?;
+                        push_variable(
+                            alloc,
+                            &mut variables,
+                            name,
+                            Stands::Variable { index, sort },
+                        )?;
                     }
                 }
                 index += 1;
                 at = binding.behind;
             }
+        }
+    }
+}
+
+/// The variables of the bindings that come next, whose form is right, as bound names.
+pub fn read_variables(
+    alloc: Global,
+    state: &SessionState,
+    tree: &Tree,
+    i: u32,
+) -> Result<BoundNames, Stop>
+    ensures { Checks result (variables_from state.now 0 (here tree.now i)) }
+{
+    match variables_at(alloc, state, tree, i) {
+        Err(stop) => Err(stop),
+        Ok(variables) => {
+            let mut bound = BoundNames::new(alloc);
+            bind_all(&mut bound, variables.as_slice())?;
+            Ok(bound)
         }
     }
 }

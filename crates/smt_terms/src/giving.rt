@@ -11,7 +11,7 @@ use std::alloc::Global;
 use term_table::{Memory, Name};
 
 /// Binds more names.
-fn bind_all(bound: &mut BoundNames, more: &[Bound]) -> Result<(), Memory>
+pub(crate) fn bind_all(bound: &mut BoundNames, more: &[Bound]) -> Result<(), Memory>
     ensures { OnOk result (bound.new ≡ bound.old ++ more.now) }
 {
     for b in more {

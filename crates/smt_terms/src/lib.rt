@@ -12,6 +12,8 @@ mod giving;
 mod numbers;
 mod opening;
 mod tokens;
+mod triggers;
+mod values;
 mod walking;
 
 pub use bodies::{check_few_bindings, other_sort_at, read_variables};
@@ -22,3 +24,6 @@ pub use cursor::{
 pub use elaborate::elaborate_term;
 pub use frame::Inside;
 pub use numbers::{is_wide, number_of};
+
+#[cfg(test)]
+mod tests;

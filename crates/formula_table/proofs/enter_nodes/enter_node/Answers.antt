@@ -1,11 +1,16 @@
-use Rattle.std.proofs.Common.{[], length, List, ap, sym, subst, ◌∙◌, append-nil, true≢false}
+use Rattle.std.proofs.Common.{[], ◌<◌, length, List, ap, sym, subst, ◌∙◌, append-nil, true≢false}
+use Rattle.std.proofs.lemmas.List.Elements.{All-contains}
+use Rattle.formula_shape.specs.ShapeNode.{parts_of}
+use Rattle.formula_shape.specs.Reach.ReachesNode.{part_of_it}
 use Rattle.formula_table.specs.declared.node.Node.{Node}
+use Rattle.formula_table.specs.BecomesLaws.{forall_stands}
+use Rattle.formula_table.specs.StandLaws.{fits_entered}
 use Rattle.formula_table.specs.Formulas.{FitsTable}
 use Rattle.formula_table.specs.InOrder.PutsNext.{nothing}
 use Rattle.formula_table.specs.Entry.{BecomesNode}
 use Rattle.formula_table.specs.EntryInside.{StopsNode}
 use Rattle.formula_table.proofs.EntryLemmas.{err_map}
-use Rattle.formula_table.proofs.NodeLemmas.{fits_entered, node_grows, stops_node}
+use Rattle.formula_table.proofs.NodeLemmas.{node_grows, stops_node}
 use Rattle.formula_table.proofs.enter_nodes.enter_node.Goals as goal
 
 pub returns-then-not-reached-clause-ok : goal.returns-then-not-reached-clause-ok
@@ -18,7 +23,9 @@ put_node-requires c =
     let node = c.node_at-node.result.now in
     let fits = c.requires.formula.lawful.nodes_fit (length c.args.numbers.now) node c.node_at-node.ensures in
     subst (FitsTable c.args.table.now) (sym c.in_ok-node.ensures)
-    (fits_entered c.args.shape.now c.args.terms.now c.args.foralls.now c.args.numbers.now c.args.table.now (length c.args.numbers.now) node c.node_at-node.ensures (c.requires.reached.0 c.if-not-reached.false) fits.parts_stand fits.foralls_stand c.requires.foralls_stand c.requires.stand)
+    (fits_entered c.args.shape.now c.args.terms.now c.args.foralls.now c.args.numbers.now c.args.table.now (length c.args.numbers.now) node c.node_at-node.ensures (c.requires.reached.0 c.if-not-reached.false)
+    (λ part named. c.requires.stand part (All-contains (λ p. p < length c.args.numbers.now) (parts_of node) part fits.parts_stand named) (part_of_it (c.requires.reached.0 c.if-not-reached.false) c.node_at-node.ensures named))
+    (λ index reach. c.requires.foralls_stand index (forall_stands c.args.shape.now c.requires.formula index reach) reach))
 
 pub returns-in_err-number-clause-fault : goal.returns-in_err-number-clause-fault
 returns-in_err-number-clause-fault c =

@@ -1,6 +1,6 @@
 use Rattle.std.proofs.Common.{sym, subst}
 use Rattle.formula_shape.specs.Draft.{Draft, FitsForall, IsDraft, shape_forall}
-use Rattle.formula_shape.proofs.DraftLemmas.{IsDraft-with_forall}
+use Rattle.formula_shape.specs.KeptLaws.{IsDraft-with_forall}
 use Rattle.formula_shape.proofs.shape_maker.ShapeMaker.forall.Goals as goal
 
 pub invariant_of-self-2 : goal.invariant_of-self-2

@@ -1,6 +1,6 @@
 use Rattle.std.proofs.Common.{length, sym, subst}
 use Rattle.formula_shape.specs.Draft.{Draft, FitsNode}
-use Rattle.formula_shape.proofs.DraftLemmas.{IsDraft-with_node}
+use Rattle.formula_shape.specs.KeptLaws.{IsDraft-with_node}
 use Rattle.formula_shape.proofs.shape_maker.ShapeMaker.node.Goals as goal
 
 pub invariant_of-self-2 : goal.invariant_of-self-2

@@ -1,6 +1,6 @@
 use Rattle.std.proofs.Common.{length, sym, subst}
 use Rattle.formula_shape.specs.Draft.{Draft, FitsRow}
-use Rattle.formula_shape.proofs.DraftLemmas.{IsDraft-with_row}
+use Rattle.formula_shape.specs.KeptLaws.{IsDraft-with_row}
 use Rattle.formula_shape.proofs.shape_maker.ShapeMaker.row.Goals as goal
 
 pub invariant_of-self-2 : goal.invariant_of-self-2

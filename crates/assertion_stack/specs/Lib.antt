@@ -1,0 +1,10 @@
+pub mod GraphTerms
+pub mod GraphTermsLaws
+pub mod Held
+pub mod Asserts
+pub mod Assertions
+pub mod AssertShape
+pub mod InLevel
+pub mod Stands
+pub mod WorkList
+pub mod StackInside

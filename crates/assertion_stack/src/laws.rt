@@ -1,0 +1,30 @@
+//! Laws of the definitions, each on a function that does nothing.
+ghost use Rattle.std.specs.Prelude.{◌≡◌, ◌≢◌, ℕ, ◌<◌, length};
+ghost use Rattle.formula_shape.specs.Draft.{Formula, IsFormula};
+ghost use Rattle.formula_table.specs.declared.enter_fault.EnterFault.{EnterFault as Fault};
+ghost use Rattle.formula_table.specs.declared.enter_fault.EnterFault.TheVariants.{Memory};
+ghost use Rattle.formula_table.specs.Formulas.{Formulas};
+ghost use Rattle.assertion_stack.specs.Held.{Held};
+ghost use Rattle.assertion_stack.specs.Asserts.{Asserts};
+ghost use Rattle.assertion_stack.specs.Assertions.{Assertions, pushed, popped};
+ghost use Rattle.assertion_stack.specs.AssertShape.{AssertsFormula, StopsAssert};
+ghost use Rattle.assertion_stack.specs.Stands.{AreAssertions};
+ghost use Rattle.assertion_stack.specs.InLevel.{KeepsLevels, StandAlike};
+
+/// To assert a node has one outcome at most.
+pub fn asserts_law()
+    ensures once { (formulas : Formulas) (n : ℕ) (before one other : Held) → Asserts formulas n before one → Asserts formulas n before other → one ≡ other }
+{}
+
+/// What came in a level goes with it, and a level that ends gives back what stood when it was opened.
+pub fn pop_law()
+    ensures gone { (before after : Assertions) → 0 < length before.saved → KeepsLevels before after → StandAlike (popped before) (popped after) }
+    ensures back { (before after : Assertions) → KeepsLevels (pushed before) after → StandAlike before (popped after) }
+{}
+
+/// A formula is asserted in one way, and then not refused, and it is refused in one way, each but for want of memory.
+pub fn one_answer_law()
+    ensures once { (formula : Formula) (before one other : Assertions) → IsFormula formula → AreAssertions before → AssertsFormula formula before one → AssertsFormula formula before other → one ≡ other }
+    ensures not_both { (formula : Formula) (before one other : Assertions) (fault : Fault) → IsFormula formula → AreAssertions before → (fault ≢ Memory) → AssertsFormula formula before one → StopsAssert formula before other fault → ⊥ }
+    ensures alike { (formula : Formula) (before one other : Assertions) (fault also : Fault) → IsFormula formula → AreAssertions before → (fault ≢ Memory) → (also ≢ Memory) → StopsAssert formula before one fault → StopsAssert formula before other also → (fault ≡ also) × (one ≡ other) }
+{}

@@ -1,0 +1,34 @@
+-- What is reached becomes something.
+use Rattle.std.proofs.Common.{◌≡◌, ℕ, ◌<◌, List, [], ◌∷◌, length, slice_get, Some, refl, arith}
+use Rattle.std.proofs.lemmas.List.Elements.{All-contains}
+use Rattle.term_table.specs.declared.term_row.TermRow.{TermRow}
+use Rattle.term_table.specs.ListLaws.{element_at}
+use Rattle.formula_shape.specs.declared.shape_row.ShapeRow.{ShapeRow}
+use Rattle.formula_shape.specs.declared.shape_row.ShapeRow.TheVariants.{Var, App}
+use Rattle.formula_shape.specs.declared.shape_node.ShapeNode.TheVariants.{Forall}
+use Rattle.formula_shape.specs.Reach.{ReachesNode, ReachesRow}
+use Rattle.formula_shape.specs.ReachLaws.{row_stands, node_stands}
+use Rattle.formula_shape.specs.Draft.{Formula, IsFormula}
+use Rattle.formula_table.specs.declared.node.Node.{Node}
+use Rattle.formula_table.specs.Entry.{BecomesRow, BecomesNode, ReachesForall, entered_row, entered_node}
+
+module _ (formula : Formula) (is : IsFormula formula) where
+  -- a reached row becomes a row of a table
+  pub row_becomes : (terms : List ℕ) (n : ℕ) → ReachesRow formula.rows formula.nodes formula.root n → (x : TermRow) × BecomesRow formula terms n x
+  row_becomes terms n reach =
+      let at = element_at formula.rows n (row_stands formula.rows formula.nodes formula.foralls is.lawful formula.root is.root_stands reach) in
+      by at.0 at.1
+    where
+      by : (row : ShapeRow) → slice_get formula.rows n ≡ Some row → (x : TermRow) × BecomesRow formula terms n x
+      by (Var index) at = absurd (is.closed n index reach at)
+      by (App symbol args) at = (entered_row terms symbol args, record { symbol = symbol; args = args; reached = reach; stands = at; row_is = refl })
+
+  -- a reached node becomes a node of the table
+  pub node_becomes : (terms foralls numbers : List ℕ) (n : ℕ) → ReachesNode formula.nodes formula.root n → (x : Node) × BecomesNode formula terms foralls numbers n x
+  node_becomes terms foralls numbers n reach =
+      let at = element_at formula.nodes n (node_stands formula.rows formula.nodes formula.foralls is.lawful formula.root is.root_stands reach) in
+      (entered_node terms foralls numbers at.0, record { shape_node = at.0; reached = reach; stands = at.1; node_is = refl })
+
+  -- a reached forall stands
+  pub forall_stands : (index : ℕ) → ReachesForall formula index → index < length formula.foralls
+  forall_stands index reach = All-contains (λ n. n < length formula.foralls) (index ∷ []) index (is.lawful.nodes_fit reach.node (Forall index) reach.stands).foralls_stand (0, omega arith, refl)
