@@ -14,15 +14,19 @@ use Rattle.smt_text.specs.declared.byte_fault.ByteFault.{ByteFault}
 use Rattle.smt_text.specs.declared.byte_fault.ByteFault.TheVariants.{BadByte, Unclosed, Stray, TooDeep, TooLong}
 use Rattle.smt_text.specs.declared.fault.TextFault.{TextFault}
 use Rattle.smt_text.specs.declared.fault.TextFault.TheVariants as fault
-use Rattle.ematch_cli.specs.Run.{RunState, Replies, IsRefused}
-use Rattle.ematch_cli.specs.Output.{Answer, Open, Finished, Failed, IsAnswer, behind, failure, silence, at_end, opening, IsOutput}
-use Rattle.ematch_cli.specs.ErrorLine.{fault_line, not_built}
+use Rattle.smt_commands.specs.declared.command.Command as syntax
+use Rattle.smt_commands.specs.declared.command.Command.TheVariants.{Exit}
+use Rattle.ematch_cli.specs.RunState.{RunState}
+use Rattle.ematch_cli.specs.Run.{Replies, IsRefused}
+use Rattle.ematch_cli.specs.Output.{Answer, Ending, Open, Finished, Failed, IsAnswer, behind, failure, last, silence, at_end, opening, IsOutput}
+use Rattle.ematch_cli.specs.ErrorLine.{fault_line}
+use Rattle.ematch_cli.specs.Status.{outside_status}
 use Rattle.ematch_cli.specs.WritesError.{WritesError}
-use Rattle.ematch_cli.specs.Headline.{Wrote, BeginsWith, WroteFront, WroteFrontOf, Answers}
+use Rattle.ematch_cli.specs.Headline.{Wrote, BeginsWith, WroteFront, WroteFrontOf, Ends, Answers}
 use Rattle.ematch_cli.specs.declared.status.Status.{Status}
 use Rattle.ematch_cli.specs.declared.status.Status.TheVariants as status
 use Rattle.ematch_cli.proofs.OneAnswer.{answer_once}
-use Rattle.ematch_cli.proofs.Reached.{Reached, ahead, reached_read, reached_reply, answered, answered_taken, answered_only, ends_only, no_memory, open_failed, finished_failed, open_answer, open_only, fault_answer, end_answer, end_only, refused_answer, reply_begins, unclosed}
+use Rattle.ematch_cli.proofs.Reached.{Reached, ahead, reached_read, reached_reply, answered, answered_taken, answered_only, ends_only, no_memory, open_failed, finished_failed, open_answer, open_only, fault_answer, end_answer, end_only, refused_answer, exit_answer, reply_begins, right_now, unclosed}
 
 by_status : (s : Status) (P : Status → Type 0) → (s ≡ status.ScriptError) ⊎ ((s ≡ status.WriteFault) ⊎ (s ≡ status.NoMemory))
     → (s ≡ status.ScriptError → P status.ScriptError) → (s ≡ status.WriteFault → P status.WriteFault) → (s ≡ status.NoMemory → P status.NoMemory) → P s
@@ -38,10 +42,15 @@ no_error s (inr is) error = cc
 begins_behind : (text front bytes : List ℕ) → BeginsWith front bytes → BeginsWith (text ++ front) (text ++ bytes)
 begins_behind text front bytes begins = (begins.0, ap (λ (b : List ℕ). text ++ b) begins.1 ∙ sym (append_assoc text front begins.0))
 
+-- where all bytes were taken, their output is that of the input
+at_whole : (limits : Limits) (input : Option (List ℕ)) (taken : List ℕ) (old new : Option (List ℕ)) (ending : Ending) → Exhausts input taken → Wrote old new (IsOutput limits taken) ending → IfSome input (λ all. Wrote old new (IsOutput limits all) ending)
+at_whole limits None taken old new ending all wrote = tt
+at_whole limits (Some xs) taken old new ending all wrote = subst (λ (bytes : List ℕ). Wrote old new (IsOutput limits bytes) ending) (sym all) wrote
+
 module _ (limits : Limits) (in0 in1 out0 out1 out2 : Option (List ℕ)) (now : RunState) (rest : List ℕ → Script) (reached : Reached limits in0 in1 out0 out1 now rest) where
   -- where this answers what is left, a front of it was written behind the text
-  front_of : (known : Bool) (bytes : List ℕ) → ((after : Answer) → IsAnswer known (rest []) now after → BeginsWith bytes after.bytes) → WroteFront out1 out2 bytes
-      → WroteFrontOf out0 out2 (IsAnswer known (script_of limits reached.taken) (opening limits))
+  front_of : (known : Bool) (bytes : List ℕ) → ((after : Answer) → IsAnswer limits known (rest []) now after → BeginsWith bytes after.bytes) → WroteFront out1 out2 bytes
+      → WroteFrontOf out0 out2 (IsAnswer limits known (script_of limits reached.taken) (opening limits))
   front_of known bytes begins wrote = (
     reached.text ++ wrote.0,
     λ answer is.
@@ -52,12 +61,12 @@ module _ (limits : Limits) (in0 in1 out0 out1 out2 : Option (List ℕ)) (now : R
     Appended-then out0 out1 out2 reached.text wrote.0 reached.wrote wrote.2,
   )
 
-  whole_of : (known : Bool) (bytes : List ℕ) (end : Answer) → IsAnswer known (script_of limits bytes) (opening limits) (behind reached.text end) → Appended out1 out2 end.bytes
-      → Wrote out0 out2 (IsAnswer known (script_of limits bytes) (opening limits)) end.ending
+  whole_of : (known : Bool) (bytes : List ℕ) (end : Answer) → IsAnswer limits known (script_of limits bytes) (opening limits) (behind reached.text end) → Appended out1 out2 end.bytes
+      → Wrote out0 out2 (IsAnswer limits known (script_of limits bytes) (opening limits)) end.ending
   whole_of known bytes end is wrote = (behind reached.text end, is, refl, Appended-then out0 out1 out2 reached.text end.bytes reached.wrote wrote)
 
-  failure_begins : (known : Bool) (line : List ℕ) → IsAnswer known (rest []) now (failure line) → (after : Answer) → IsAnswer known (rest []) now after → BeginsWith line after.bytes
-  failure_begins known line is after answered' = ([], ap (λ (a : Answer). a.bytes) (answer_once known (rest []) now after (failure line) answered' is) ∙ sym (append-nil line))
+  failure_begins : (known : Bool) (line : List ℕ) → IsAnswer limits known (rest []) now (failure line) → (after : Answer) → IsAnswer limits known (rest []) now after → BeginsWith line after.bytes
+  failure_begins known line is after answered' = ([], ap (λ (a : Answer). a.bytes) (answer_once limits reached.law known (rest []) now after (failure line) (right_now limits in0 in1 out0 out1 now rest reached) answered' is) ∙ sym (append-nil line))
 
   told : (P : List ℕ → Type 0) → ((more : List ℕ) → P (reached.taken ++ more)) → (input : Option (List ℕ)) → input ≡ in0 → IfSome input P
   told P each None is = tt
@@ -66,7 +75,7 @@ module _ (limits : Limits) (in0 in1 out0 out1 out2 : Option (List ℕ)) (now : R
       subst P (sym parts.2) (each parts.0)
 
   -- the line of an error, whatever comes behind
-  pub error_line : (line : List ℕ) (s : Status) → WritesError line out1 out2 s → ((known : Bool) (more : List ℕ) → IsAnswer known (rest more) now (failure line)) → Answers limits in0 in1 out0 out2 s
+  pub error_line : (line : List ℕ) (s : Status) → WritesError line out1 out2 s → ((known : Bool) (more : List ℕ) → IsAnswer limits known (rest more) now (failure line)) → Answers limits in0 in1 out0 out2 s
   error_line line s writes fails = by_status s (λ t. Answers limits in0 in1 out0 out2 t) writes.is
       (λ e. record {
         taken = reached.taken;
@@ -95,14 +104,14 @@ module _ (limits : Limits) (in0 in1 out0 out1 out2 : Option (List ℕ)) (now : R
       })
 
   -- the line of an error that the end of the input makes
-  pub end_line : (line : List ℕ) (s : Status) → WritesError line out1 out2 s → Exhausts in0 reached.taken → IsAnswer true (rest []) now (failure line) → Answers limits in0 in1 out0 out2 s
+  pub end_line : (line : List ℕ) (s : Status) → WritesError line out1 out2 s → Exhausts in0 reached.taken → IsAnswer limits true (rest []) now (failure line) → Answers limits in0 in1 out0 out2 s
   end_line line s writes all fails = by_status s (λ t. Answers limits in0 in1 out0 out2 t) writes.is
       (λ e.
       let wrote : Wrote out0 out2 (IsOutput limits reached.taken) Failed = whole_of true reached.taken (failure line) (answered_taken limits in0 in1 out0 out1 now rest reached true (failure line) fails) (writes.whole e) in
       record {
         taken = reached.taken;
         given = reached.given;
-        stands = (inr (all, wrote), at_whole in0 all wrote);
+        stands = (inr (all, wrote), at_whole limits in0 reached.taken out0 out2 Failed all wrote);
         error_so_far = λ answer is failed calm. refl;
         error_at_end = λ answer is failed calm no_read. refl;
       })
@@ -120,18 +129,31 @@ module _ (limits : Limits) (in0 in1 out0 out1 out2 : Option (List ℕ)) (now : R
         error_so_far = λ answer is failed calm. absurd (calm.1 refl);
         error_at_end = λ answer is failed calm no_read. absurd (calm.1 refl);
       })
-    where
-      at_whole : (input : Option (List ℕ)) → Exhausts input reached.taken → Wrote out0 out2 (IsOutput limits reached.taken) Failed → IfSome input (λ all. Wrote out0 out2 (IsOutput limits all) Failed)
-      at_whole None all wrote = tt
-      at_whole (Some xs) all wrote = subst (λ (bytes : List ℕ). Wrote out0 out2 (IsOutput limits bytes) Failed) (sym all) wrote
 
-  -- a write that failed in the midst of a reply
-  pub reply_fault : (words : List Word) (behind_it : Script) (later : RunState) (text : List ℕ) → rest [] ≡ Command words behind_it → Replies now words later text → WroteFront out1 out2 text
-      → Answers limits in0 in1 out0 out2 status.WriteFault
-  reply_fault words behind_it later text first replies wrote = record {
+  -- the answer of `exit`, whatever comes behind
+  pub exited : (text : List ℕ) → Appended out1 out2 text → ((known : Bool) (more : List ℕ) → IsAnswer limits known (rest more) now (last text Finished)) → Answers limits in0 in1 out0 out2 status.Done
+  exited text wrote ends = record {
     taken = reached.taken;
     given = reached.given;
-    stands = inl (front_of false text (λ after is. reply_begins false words behind_it now later text after replies (subst (λ (s : Script). IsAnswer false s now after) first is)) wrote);
+    stands = (
+      inl (whole_of false reached.taken (last text Finished) (answered_taken limits in0 in1 out0 out1 now rest reached false (last text Finished) (ends false [])) wrote),
+      told (λ all. Wrote out0 out2 (IsOutput limits all) Finished)
+          (λ more. whole_of true (reached.taken ++ more) (last text Finished) (answered limits in0 in1 out0 out1 now rest reached true more (last text Finished) (ends true more)) wrote) in0 refl,
+    );
+    error_so_far = λ answer is failed calm. finished_failed (sym (ends_only limits in0 in1 out0 out1 now rest reached false (last text Finished) answer (only false) is) ∙ failed);
+    error_at_end = λ answer is failed calm no_read. finished_failed (sym (ends_only limits in0 in1 out0 out1 now rest reached true (last text Finished) answer (only true) is) ∙ failed);
+  }
+    where
+      only : (known : Bool) (after : Answer) → IsAnswer limits known (rest []) now after → after ≡ last text Finished
+      only known after is = answer_once limits reached.law known (rest []) now after (last text Finished) (right_now limits in0 in1 out0 out1 now rest reached) is (ends known [])
+
+  -- a write that failed in the midst of a reply
+  pub reply_fault : (words : List Word) (behind_it : Script) (command : syntax.Command) (later : RunState) (text : List ℕ) → rest [] ≡ Command words behind_it → Replies limits now words command later text → WroteFront out1 out2 text
+      → Answers limits in0 in1 out0 out2 status.WriteFault
+  reply_fault words behind_it command later text first replies wrote = record {
+    taken = reached.taken;
+    given = reached.given;
+    stands = inl (front_of false text (λ after is. reply_begins limits reached.law false words behind_it now later command text after (right_now limits in0 in1 out0 out1 now rest reached) replies (subst (λ (s : Script). IsAnswer limits false s now after) first is)) wrote);
     error_so_far = λ answer is failed calm. absurd (calm.0 refl);
     error_at_end = λ answer is failed calm no_read. absurd (calm.0 refl);
   }
@@ -139,20 +161,19 @@ module _ (limits : Limits) (in0 in1 out0 out1 out2 : Option (List ℕ)) (now : R
 module _ (limits : Limits) (in0 in1 out0 out1 : Option (List ℕ)) (now : RunState) (rest : List ℕ → Script) (reached : Reached limits in0 in1 out0 out1 now rest) where
   -- the input was read to its end, between two commands
   pub finished : Exhausts in0 reached.taken → rest [] ≡ End → Answers limits in0 in1 out0 out1 status.Done
-  finished all end = record {
-    taken = reached.taken;
-    given = reached.given;
-    stands = (
-      all,
-      whole_of limits in0 in1 out0 out1 out1 now rest reached true reached.taken (silence Finished)
-          (answered_taken limits in0 in1 out0 out1 now rest reached true (silence Finished) (subst (λ (s : Script). IsAnswer true s now (silence Finished)) (sym end) (end_answer now))) (Appended-none out1),
-    );
-    error_so_far = λ answer is failed calm. open_failed (sym (ends_only limits in0 in1 out0 out1 now rest reached false (silence Open) answer (only false) is) ∙ failed);
-    error_at_end = λ answer is failed calm no_read. finished_failed (sym (ends_only limits in0 in1 out0 out1 now rest reached true (silence Finished) answer (only true) is) ∙ failed);
-  }
+  finished all end =
+      let wrote : Wrote out0 out1 (IsOutput limits reached.taken) Finished = whole_of limits in0 in1 out0 out1 out1 now rest reached true reached.taken (silence Finished)
+          (answered_taken limits in0 in1 out0 out1 now rest reached true (silence Finished) (subst (λ (s : Script). IsAnswer limits true s now (silence Finished)) (sym end) (end_answer limits now))) (Appended-none out1) in
+      record {
+        taken = reached.taken;
+        given = reached.given;
+        stands = (inr (all, wrote), at_whole limits in0 reached.taken out0 out1 Finished all wrote);
+        error_so_far = λ answer is failed calm. open_failed (sym (ends_only limits in0 in1 out0 out1 now rest reached false (silence Open) answer (only false) is) ∙ failed);
+        error_at_end = λ answer is failed calm no_read. finished_failed (sym (ends_only limits in0 in1 out0 out1 now rest reached true (silence Finished) answer (only true) is) ∙ failed);
+      }
     where
-      only : (known : Bool) (after : Answer) → IsAnswer known (rest []) now after → after ≡ at_end known
-      only known after is = end_only known now after (subst (λ (s : Script). IsAnswer known s now after) end is)
+      only : (known : Bool) (after : Answer) → IsAnswer limits known (rest []) now after → after ≡ at_end known
+      only known after is = end_only limits known now after (subst (λ (s : Script). IsAnswer limits known s now after) end is)
 
   -- a read failed while the bytes taken are open
   pub read_failed : IsOpen (rest []) → Answers limits in0 in1 out0 out1 status.ReadFault
@@ -160,8 +181,8 @@ module _ (limits : Limits) (in0 in1 out0 out1 : Option (List ℕ)) (now : RunSta
     taken = reached.taken;
     given = reached.given;
     stands = whole_of limits in0 in1 out0 out1 out1 now rest reached false reached.taken (silence Open)
-        (answered_taken limits in0 in1 out0 out1 now rest reached false (silence Open) (open_answer (rest []) now open')) (Appended-none out1);
-    error_so_far = λ answer is failed calm. open_failed (sym (ends_only limits in0 in1 out0 out1 now rest reached false (silence Open) answer (open_only (rest []) now open') is) ∙ failed);
+        (answered_taken limits in0 in1 out0 out1 now rest reached false (silence Open) (open_answer limits (rest []) now open')) (Appended-none out1);
+    error_so_far = λ answer is failed calm. open_failed (sym (ends_only limits in0 in1 out0 out1 now rest reached false (silence Open) answer (open_only limits (rest []) now open') is) ∙ failed);
     error_at_end = λ answer is failed calm no_read. absurd (no_read refl);
   }
 
@@ -199,28 +220,32 @@ module _ (limits : Limits) (in0 in1 in2 out0 out1 out2 : Option (List ℕ)) (now
   pub reply_memory : (words : List Word) → Reads old new in1 in2 (Ok (Some words)) → Answers limits in0 in2 out0 out1 status.NoMemory
   reply_memory words r = no_memory limits in0 in2 out0 out1 now (behind_taken r.taken) (after r.taken r.given)
 
-  pub write_fault : (words : List Word) (later : RunState) (text : List ℕ) → Reads old new in1 in2 (Ok (Some words)) → Replies now words later text → WroteFront out1 out2 text → Answers limits in0 in2 out0 out2 status.WriteFault
-  write_fault words later text r replies wrote =
-      reply_fault limits in0 in2 out0 out1 out2 now (behind_taken r.taken) (after r.taken r.given) words (script new (new.held ++ [])) later text (r.answer.first []) replies wrote
+  pub write_fault : (words : List Word) (command : syntax.Command) (later : RunState) (text : List ℕ) → Reads old new in1 in2 (Ok (Some words)) → Replies limits now words command later text → WroteFront out1 out2 text → Answers limits in0 in2 out0 out2 status.WriteFault
+  write_fault words command later text r replies wrote =
+      reply_fault limits in0 in2 out0 out1 out2 now (behind_taken r.taken) (after r.taken r.given) words (script new (new.held ++ [])) command later text (r.answer.first []) replies wrote
 
-  pub next : (words : List Word) (later : RunState) (text : List ℕ) → Reads old new in1 in2 (Ok (Some words)) → Replies now words later text → Appended out1 out2 text → Reached limits in0 in2 out0 out2 later (ahead new)
-  next words later text r replies wrote = reached_reply limits in0 in2 out0 out1 out2 now later words text (behind_taken r.taken) (ahead new) (after r.taken r.given) r.answer.first replies wrote
+  pub next : (words : List Word) (command : syntax.Command) (later : RunState) (text : List ℕ) → Reads old new in1 in2 (Ok (Some words)) → command ≢ Exit → Replies limits now words command later text → Appended out1 out2 text → Reached limits in0 in2 out0 out2 later (ahead new)
+  next words command later text r goes replies wrote = reached_reply limits in0 in2 out0 out1 out2 now later words command text (behind_taken r.taken) (ahead new) (after r.taken r.given) r.answer.first goes replies wrote
 
-  pub refused_command : (words : List Word) (s : Status) → Reads old new in1 in2 (Ok (Some words)) → IsRefused now words → WritesError not_built out1 out2 s → Answers limits in0 in2 out0 out2 s
-  refused_command words s r refused writes = error_line limits in0 in2 out0 out1 out2 now (behind_taken r.taken) (after r.taken r.given) not_built s writes
-      (λ known more. subst (λ (t : Script). IsAnswer known t now (failure not_built)) (sym (r.answer.first more)) (refused_answer known words (script new (new.held ++ more)) now refused))
+  pub exit : (words : List Word) (later : RunState) (text : List ℕ) → Reads old new in1 in2 (Ok (Some words)) → Replies limits now words Exit later text → Appended out1 out2 text → Answers limits in0 in2 out0 out2 status.Done
+  exit words later text r replies wrote = exited limits in0 in2 out0 out1 out2 now (behind_taken r.taken) (after r.taken r.given) text wrote
+      (λ known more. subst (λ (t : Script). IsAnswer limits known t now (last text Finished)) (sym (r.answer.first more)) (exit_answer limits known words (script new (new.held ++ more)) now later text replies))
+
+  pub refused_command : (words : List Word) (line : List ℕ) (s : Status) → Reads old new in1 in2 (Ok (Some words)) → IsRefused now words line → WritesError line out1 out2 s → Answers limits in0 in2 out0 out2 s
+  refused_command words line s r refused writes = error_line limits in0 in2 out0 out1 out2 now (behind_taken r.taken) (after r.taken r.given) line s writes
+      (λ known more. subst (λ (t : Script). IsAnswer limits known t now (failure line)) (sym (r.answer.first more)) (refused_answer limits known words (script new (new.held ++ more)) now line refused))
 
   refused_at : (f : TextFault) (byte : ByteFault) (s : Status) (taken : List ℕ) (given : Consumes in1 in2 taken) → in_bytes f ≡ Some byte
       → Refuses (script old) (old.held ++ taken) in1 taken f → WritesError (fault_line byte) out1 out2 s → Answers limits in0 in2 out0 out2 s
   refused_at f byte s taken given has (AtByte b lasting same is) writes =
       error_line limits in0 in2 out0 out1 out2 now (behind_taken taken) (after taken given) (fault_line byte) s writes
-      (λ known more. subst (λ (t : Script). IsAnswer known t now (failure (fault_line byte))) (sym (is more))
-      (subst (λ (x : ByteFault). IsAnswer known (Fault b) now (failure (fault_line x))) (same_byte f b byte same has) (fault_answer known b now lasting)))
+      (λ known more. subst (λ (t : Script). IsAnswer limits known t now (failure (fault_line byte))) (sym (is more))
+      (subst (λ (x : ByteFault). IsAnswer limits known (Fault b) now (failure (fault_line x))) (same_byte f b byte same has) (fault_answer limits known b now lasting)))
   refused_at f byte s taken given has (AtEnd first same is all) writes =
       end_line limits in0 in2 out0 out1 out2 now (behind_taken taken) (after taken given) (fault_line byte) s writes
       (Exhausts-then in0 in1 reached.taken taken reached.given all)
-      (subst (λ (t : Script). IsAnswer true t now (failure (fault_line byte))) (sym (at_nil taken (Fault (Unclosed first)) is))
-      (subst (λ (x : ByteFault). IsAnswer true (Fault (Unclosed first)) now (failure (fault_line x))) (same_byte f (Unclosed first) byte same has) (unclosed now first)))
+      (subst (λ (t : Script). IsAnswer limits true t now (failure (fault_line byte))) (sym (at_nil taken (Fault (Unclosed first)) is))
+      (subst (λ (x : ByteFault). IsAnswer limits true (Fault (Unclosed first)) now (failure (fault_line x))) (same_byte f (Unclosed first) byte same has) (unclosed limits now first)))
 
   pub refused_bytes : (f : TextFault) (byte : ByteFault) (s : Status) → in_bytes f ≡ Some byte → Reads old new in1 in2 (Err f) → WritesError (fault_line byte) out1 out2 s → Answers limits in0 in2 out0 out2 s
   refused_bytes f byte s has r writes = refused_at f byte s r.taken r.given has (byte_answer f byte (old.held ++ r.taken) in1 r.taken has r.answer) writes
@@ -234,12 +259,12 @@ module _ (limits : Limits) (in0 in1 in2 out0 out1 out2 : Option (List ℕ)) (now
       byte_answer (fault.TooDeep place) byte all left taken has answer = answer.1
       byte_answer (fault.TooLong place) byte all left taken has answer = answer.1
 
-  -- the reader's one other fault
-  pub other_fault : (f : TextFault) → in_bytes f ≡ None → f ≢ fault.ReadFault → Reads old new in1 in2 (Err f) → Answers limits in0 in2 out0 out1 status.NoMemory
-  other_fault fault.Memory none no_read r = reader_memory r
-  other_fault fault.ReadFault none no_read r = absurd (no_read refl)
-  other_fault (fault.BadByte place) none no_read r = absurd (cc)
-  other_fault (fault.Unclosed place) none no_read r = absurd (cc)
-  other_fault (fault.Stray place) none no_read r = absurd (cc)
-  other_fault (fault.TooDeep place) none no_read r = absurd (cc)
-  other_fault (fault.TooLong place) none no_read r = absurd (cc)
+  -- a fault that is none of the bytes
+  pub outside : (f : TextFault) → in_bytes f ≡ None → Reads old new in1 in2 (Err f) → Answers limits in0 in2 out0 out1 (outside_status f)
+  outside fault.Memory none r = reader_memory r
+  outside fault.ReadFault none r = read_fault r
+  outside (fault.BadByte place) none r = absurd (cc)
+  outside (fault.Unclosed place) none r = absurd (cc)
+  outside (fault.Stray place) none r = absurd (cc)
+  outside (fault.TooDeep place) none r = absurd (cc)
+  outside (fault.TooLong place) none r = absurd (cc)

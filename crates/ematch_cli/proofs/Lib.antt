@@ -1,12 +1,9 @@
 pub mod TreeSizes
+pub mod Quotes
 pub mod Texts
 pub mod Matches
 pub mod OneText
 pub mod OneAnswer
 pub mod Reached
 pub mod Exits
-pub mod Entering
-pub mod EnteredTerms
-pub mod LevelLemmas
-pub mod Numbered
 pub mod Steps

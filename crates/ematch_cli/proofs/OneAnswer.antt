@@ -1,106 +1,172 @@
 -- Each script has one answer at most.
-use Rattle.std.proofs.Common.{◌≡◌, ℕ, ◌<◌, inl, inr, Bool, List, [], ◌∷◌, ◌++◌, length, Some, sym, ap, ap₂, subst, ◌∙◌, arith}
-use Rattle.term_table.specs.declared.term_row.TermRow.{TermRow}
-use Rattle.term_table.specs.Standing.{terms_of}
-use Rattle.term_table.specs.State.{GraphState}
+use Rattle.std.proofs.Common.{◌≡◌, ◌≢◌, ℕ, zero, suc, inl, inr, Bool, List, [], ◌∷◌, ◌++◌, Ok, Err, refl, sym, ap, ap₂, subst, ◌∙◌}
+use Rattle.std.specs.Prelude.{Result}
+use Rattle.em_outside.specs.declared.limits.Limits.{Limits}
 use Rattle.smt_text.specs.Word.{Word}
 use Rattle.smt_text.specs.Script.{Script, End, Fault, Command}
-use Rattle.smt_syntax.specs.State.{State}
-use Rattle.smt_syntax.specs.Elaborate.{Elaborates}
-use Rattle.smt_syntax.specs.declared.command.Command as syntax
-use Rattle.smt_syntax.specs.declared.command.Command.TheVariants as command
-use Rattle.smt_syntax.specs.declared.shape.Shape.{Shape}
-use Rattle.smt_syntax.specs.declared.shape.Shape.TheVariants.{Equation, Forall}
+use Rattle.formula_shape.specs.Draft.{Formula, IsFormula}
+use Rattle.formula_table.specs.declared.enter_fault.EnterFault.{EnterFault}
+use Rattle.formula_table.specs.declared.enter_fault.EnterFault.TheVariants as enter
+use Rattle.assertion_stack.specs.Assertions.{Assertions, no_assertions, pushed, popped}
+use Rattle.assertion_stack.specs.AssertShape.{AssertsFormula, StopsAssert}
+use Rattle.assertion_stack.specs.OutcomeLaws.{AreTables, tables_at_start, tables_pushed, tables_popped, tables_asserted, asserts_formula_once, full_terms_not_asserted, lacking_nodes_not_asserted, full_terms_not_lacking_nodes}
+use Rattle.smt_names.specs.Names.{State, at_start}
+use Rattle.smt_names.specs.declared.syntax_fault.SyntaxFault.{SyntaxFault}
+use Rattle.smt_commands.specs.SessionLaws.{IsSound, KeepsSound}
+use Rattle.smt_commands.specs.Commands.{elaborate}
+use Rattle.smt_commands.specs.Commands as commands
+use Rattle.smt_commands.specs.declared.command.Command as syntax
+use Rattle.smt_commands.specs.declared.command.Command.TheVariants as command
+use Rattle.ematch_cli.specs.ErrorLine.{refusal_line, room_line}
 use Rattle.ematch_cli.specs.Names.{names_of}
-use Rattle.ematch_cli.specs.Run.{placed, EntersRow, Enters, HasNoRoomFor, HaveNoRoom, merged, Asserts, AsksTooMuch, Acts, NeedsTooMuch, RunState, Replies, IsRefused}
-use Rattle.ematch_cli.specs.Output.{Answer, IsAnswer, behind}
+use Rattle.ematch_cli.specs.Response.{IsResponse}
+use Rattle.ematch_cli.specs.RunState.{RunState, run_state}
+use Rattle.ematch_cli.specs.Run.{repeated, Does, answered, Replies, FindsNoRoom, IsRefused}
+use Rattle.ematch_cli.specs.Output.{Answer, Finished, IsAnswer, behind, failure, last, opening}
 use Rattle.ematch_cli.proofs.OneText.{listing_once}
 
--- a row is entered in one way
-row_once : (graph : GraphState) (row : TermRow) (s t : ℕ) (h k : GraphState) → EntersRow graph row s h → EntersRow graph row t k → (s ≡ t) × (h ≡ k)
-row_once graph row s t h k (inl one) (inl other) = (other.0.1 s one.0.0, one.1 ∙ sym other.1)
-row_once graph row s t h k (inl one) (inr other) = absurd (other.0 s one.0.0)
-row_once graph row s t h k (inr one) (inl other) = absurd (one.0 t other.0.0)
-row_once graph row s t h k (inr one) (inr other) = (one.2 ∙ sym other.2, one.3 ∙ sym other.3)
+-- what holds between two commands of a run
+pub record IsRight (now : RunState) : Type 0 where
+  pub session : IsSound now.session
+  pub tables : AreTables now.assertions
 
-no_room_for : (graph : GraphState) (row : TermRow) (t : ℕ) (h : GraphState) → HasNoRoomFor graph row → EntersRow graph row t h → ⊥
-no_room_for graph row t h full (inl stands) = full.0 t stands.0.0
-no_room_for graph row t h full (inr new) = let a : length (terms_of graph.standing) < graph.limit = new.1 in let b : length (terms_of graph.standing) ≡ graph.limit = full.1 in absurd (omega arith)
+-- a result is one
+ok_once : {A E : Type 0} (result : Result A E) (one other : A) → result ≡ Ok one → result ≡ Ok other → one ≡ other
+ok_once result one other is also = cc
 
--- and so are rows
-rows_once : (rows : List TermRow) (graph : GraphState) (terms : List ℕ) (h k : GraphState) (xs ys : List ℕ) → Enters graph terms rows h xs → Enters graph terms rows k ys → (h ≡ k) × (xs ≡ ys)
-rows_once [] graph terms h k xs ys one other = (one.0 ∙ sym other.0, one.1 ∙ sym other.1)
-rows_once (row ∷ rows) graph terms h k xs ys (s, next, enters, rest) (t, next', enters', rest') =
-    let same = row_once graph (placed terms row) s t next next' enters enters' in
-    rows_once rows next (terms ++ s ∷ []) h k xs ys rest
-    (subst (λ (g : GraphState). Enters g (terms ++ s ∷ []) rows k ys) (sym same.1) (subst (λ (u : ℕ). Enters next' (terms ++ u ∷ []) rows k ys) (sym same.0) rest'))
+err_once : {A E : Type 0} (result : Result A E) (one other : E) → result ≡ Err one → result ≡ Err other → one ≡ other
+err_once result one other is also = cc
 
-no_room_rows : (rows : List TermRow) (graph : GraphState) (terms : List ℕ) (h : GraphState) (xs : List ℕ) → HaveNoRoom graph terms rows → Enters graph terms rows h xs → ⊥
-no_room_rows [] graph terms h xs full enters = full
-no_room_rows (row ∷ rows) graph terms h xs (inl full) (t, next, enters, rest) = no_room_for graph (placed terms row) t next full enters
-no_room_rows (row ∷ rows) graph terms h xs (inr (s, next, enters, full)) (t, next', enters', rest) =
-    let same = row_once graph (placed terms row) s t next next' enters enters' in
-    no_room_rows rows next (terms ++ s ∷ []) h xs full
-    (subst (λ (g : GraphState). Enters g (terms ++ s ∷ []) rows h xs) (sym same.1) (subst (λ (u : ℕ). Enters next' (terms ++ u ∷ []) rows h xs) (sym same.0) rest))
+not_both : {P : Type 0} {A E : Type 0} (result : Result A E) (one : A) (other : E) → result ≡ Ok one → result ≡ Err other → P
+not_both result one other is also = absurd (cc)
 
--- an assertion does one thing
-asserts_once : (graph : GraphState) (shape : Shape) (h k : GraphState) → Asserts graph shape h → Asserts graph shape k → h ≡ k
-asserts_once graph (Equation rows left right) h k (g, terms, enters, is) (g', terms', enters', is') =
-    let same = rows_once rows graph [] g g' terms terms' enters enters' in
-    is ∙ ap₂ (λ (e : GraphState) (ts : List ℕ). merged e ts left right) same.0 same.1 ∙ sym is'
-asserts_once graph (Forall triggers) h k one other = one ∙ sym other
+-- what holds before a change and is kept by it holds after so many
+repeated_keeps : (P : Assertions → Type 0) (change : Assertions → Assertions) → ((now : Assertions) → P now → P (change now)) → (n : ℕ) (now : Assertions) → P now → P (repeated n change now)
+repeated_keeps P change keeps zero now is = is
+repeated_keeps P change keeps (suc n) now is = repeated_keeps P change keeps n (change now) (keeps now is)
 
-asks_asserts : (graph : GraphState) (shape : Shape) (h : GraphState) → AsksTooMuch graph shape → Asserts graph shape h → ⊥
-asks_asserts graph (Equation rows left right) h full (g, terms, enters, is) = no_room_rows rows graph [] g terms full enters
-asks_asserts graph (Forall triggers) h full asserts = full
+pub right_opening : (limits : Limits) → IsSound (at_start limits) → IsRight (opening limits)
+right_opening limits sound = record { session = sound; tables = tables_at_start limits.terms limits.nodes }
 
--- a command acts in one way
-acts_once : (names : ℕ → List ℕ) (graph : GraphState) (what : syntax.Command) (h k : GraphState) (a b : List ℕ) → Acts names graph what h a → Acts names graph what k b → (h ≡ k) × (a ≡ b)
-acts_once names graph command.Silent h k a b one other = (one.0 ∙ sym other.0, one.1 ∙ sym other.1)
-acts_once names graph (command.Assert shape) h k a b one other = (asserts_once graph shape h k one.0 other.0, one.1 ∙ sym other.1)
-acts_once names graph (command.Push count) h k a b one other = (one.0 ∙ sym other.0, one.1 ∙ sym other.1)
-acts_once names graph (command.Pop count) h k a b one other = (one.0 ∙ sym other.0, one.1 ∙ sym other.1)
-acts_once names graph command.CheckSat h k a b one other = (one.0 ∙ sym other.0, listing_once names graph.standing a b one.1 other.1)
+-- a command is answered by one text
+response_once : (what : syntax.Command) (before after : RunState) (a b : List ℕ) → IsResponse what before after a → IsResponse what before after b → a ≡ b
+response_once command.Unsupported before after a b one other = one ∙ sym other
+response_once command.CheckSat before after a b one other = listing_once (names_of after.session) after.assertions.graph.standing a b one other
+response_once (command.GetInfo info) before after a b one other = one ∙ sym other
+response_once command.Reset before after a b one other = one ∙ sym other
+response_once command.Silent before after a b one other = one ∙ sym other
+response_once (command.Assert shape) before after a b one other = one ∙ sym other
+response_once (command.Push count) before after a b one other = one ∙ sym other
+response_once (command.Pop count) before after a b one other = one ∙ sym other
+response_once command.ResetAssertions before after a b one other = one ∙ sym other
+response_once command.Exit before after a b one other = one ∙ sym other
 
-needs_acts : (names : ℕ → List ℕ) (graph : GraphState) (what : syntax.Command) (h : GraphState) (a : List ℕ) → NeedsTooMuch graph what → Acts names graph what h a → ⊥
-needs_acts names graph (command.Assert shape) h a full acts = asks_asserts graph shape h full acts.0
-needs_acts names graph command.Silent h a full acts = full
-needs_acts names graph (command.Push count) h a full acts = full
-needs_acts names graph (command.Pop count) h a full acts = full
-needs_acts names graph command.CheckSat h a full acts = full
+module _ (limits : Limits) where
+  -- a command does one thing
+  does_once : (what : syntax.Command) (before one other : Assertions) → AreTables before → ((formula : Formula) → what ≡ command.Assert formula → IsFormula formula) → Does limits what before one → Does limits what before other → one ≡ other
+  does_once (command.Assert formula) before one other tables is does also = asserts_formula_once formula before one other (is formula refl) tables does also
+  does_once (command.Push count) before one other tables is does also = does ∙ sym also
+  does_once (command.Pop count) before one other tables is does also = does ∙ sym also
+  does_once command.Reset before one other tables is does also = does ∙ sym also
+  does_once command.ResetAssertions before one other tables is does also = does ∙ sym also
+  does_once command.Silent before one other tables is does also = does ∙ sym also
+  does_once command.Unsupported before one other tables is does also = does ∙ sym also
+  does_once command.CheckSat before one other tables is does also = does ∙ sym also
+  does_once (command.GetInfo info) before one other tables is does also = does ∙ sym also
+  does_once command.Exit before one other tables is does also = does ∙ sym also
 
--- words mean one command
-means_once : (state : State) (words : List Word) (c d : syntax.Command) (s t : State) → Elaborates state words c s → Elaborates state words d t → (c ≡ d) × (s ≡ t)
-means_once state words c d s t one other =
-    let same : Some (c, s) ≡ Some (d, t) = sym one.0 ∙ other.0 in
-    let pair : (c, s) ≡ (d, t) = cc in
-    (ap (λ (p : syntax.Command × State). p.0) pair, ap (λ (p : syntax.Command × State). p.1) pair)
+  -- and leaves tables
+  does_tables : (what : syntax.Command) (before after : Assertions) → AreTables before → ((formula : Formula) → what ≡ command.Assert formula → IsFormula formula) → Does limits what before after → AreTables after
+  does_tables (command.Assert formula) before after tables is does = tables_asserted formula before after (is formula refl) tables does
+  does_tables (command.Push count) before after tables is does = subst AreTables (sym does) (repeated_keeps AreTables pushed tables_pushed count before tables)
+  does_tables (command.Pop count) before after tables is does = subst AreTables (sym does) (repeated_keeps AreTables popped tables_popped count before tables)
+  does_tables command.Reset before after tables is does = subst AreTables (sym does) (tables_at_start limits.terms limits.nodes)
+  does_tables command.ResetAssertions before after tables is does = subst AreTables (sym does) (tables_at_start limits.terms limits.nodes)
+  does_tables command.Silent before after tables is does = subst AreTables (sym does) tables
+  does_tables command.Unsupported before after tables is does = subst AreTables (sym does) tables
+  does_tables command.CheckSat before after tables is does = subst AreTables (sym does) tables
+  does_tables (command.GetInfo info) before after tables is does = subst AreTables (sym does) tables
+  does_tables command.Exit before after tables is does = subst AreTables (sym does) tables
 
--- a command is answered in one way
-pub replies_once : (state : RunState) (words : List Word) (s t : RunState) (a b : List ℕ) → Replies state words s a → Replies state words t b → (s ≡ t) × (a ≡ b)
-replies_once state words s t a b one other =
-    let same = means_once state.session words one.command other.command s.session t.session one.elaborated other.elaborated in
-    let acts = acts_once (names_of s.session) state.graph one.command s.graph t.graph a b one.acts
-    (subst (λ (session : State). Acts (names_of session) state.graph one.command t.graph b) (sym same.1)
-    (subst (λ (what : syntax.Command). Acts (names_of t.session) state.graph what t.graph b) (sym same.0) other.acts)) in
-    let both : s ≡ t = ap₂ (λ (session : State) (graph : GraphState). record { session = session; graph = graph }) same.1 acts.0 in
-    (both, acts.1)
+-- a formula for which there is no room is not asserted
+no_room : (formula : Formula) (before one other : Assertions) (fault : EnterFault) → IsFormula formula → AreTables before → (fault ≢ enter.Memory) → AssertsFormula formula before one → StopsAssert formula before other fault → ⊥
+no_room formula before one other enter.TermsFull is tables room asserts stops = full_terms_not_asserted formula before one other is tables asserts stops
+no_room formula before one other enter.NodesFull is tables room asserts stops = lacking_nodes_not_asserted formula before one other is tables asserts stops
+no_room formula before one other enter.Memory is tables room asserts stops = room refl
 
-pub refused_replies : {P : Type 0} (state : RunState) (words : List Word) (t : RunState) (a : List ℕ) → IsRefused state words → Replies state words t a → P
-refused_replies state words t a (inl none) replies = absurd (none replies.command t.session replies.elaborated)
-refused_replies state words t a (inr full) replies =
-    let same = means_once state.session words full.command replies.command full.session t.session full.elaborated replies.elaborated in
-    absurd (needs_acts (names_of t.session) state.graph replies.command t.graph a (subst (NeedsTooMuch state.graph) same.0 full.too_much) replies.acts)
+-- and there is one reason
+room_once : (formula : Formula) (before one other : Assertions) (fault also : EnterFault) → IsFormula formula → AreTables before → (fault ≢ enter.Memory) → (also ≢ enter.Memory)
+    → StopsAssert formula before one fault → StopsAssert formula before other also → fault ≡ also
+room_once formula before one other enter.TermsFull enter.TermsFull is tables room rooms stops more = refl
+room_once formula before one other enter.NodesFull enter.NodesFull is tables room rooms stops more = refl
+room_once formula before one other enter.TermsFull enter.NodesFull is tables room rooms stops more = absurd (full_terms_not_lacking_nodes formula before one other is tables stops more)
+room_once formula before one other enter.NodesFull enter.TermsFull is tables room rooms stops more = absurd (full_terms_not_lacking_nodes formula before other one is tables more stops)
+room_once formula before one other enter.Memory also is tables room rooms stops more = absurd (room refl)
+room_once formula before one other enter.TermsFull enter.Memory is tables room rooms stops more = absurd (rooms refl)
+room_once formula before one other enter.NodesFull enter.Memory is tables room rooms stops more = absurd (rooms refl)
 
--- a script has one answer
-pub answer_once : (known : Bool) (script : Script) (state : RunState) (a b : Answer) → IsAnswer known script state a → IsAnswer known script state b → a ≡ b
-unfolding IsAnswer
-answer_once known End state a b one other = one ∙ sym other
-answer_once known (Fault fault) state a b one other = one ∙ sym other
-answer_once known (Command words rest) state a b (inl one) (inl other) = one.1 ∙ sym other.1
-answer_once known (Command words rest) state a b (inl one) (inr (t, text, after, replies, answered, is)) = refused_replies state words t text one.0 replies
-answer_once known (Command words rest) state a b (inr (t, text, after, replies, answered, is)) (inl other) = refused_replies state words t text other.0 replies
-answer_once known (Command words rest) state a b (inr (s, text, after, replies, answered, is)) (inr (t, text', after', replies', answered', is')) =
-    let same = replies_once state words s t text text' replies replies' in
-    let later = answer_once known rest s after after' answered (subst (λ (u : RunState). IsAnswer known rest u after') (sym same.0) answered') in
-    is ∙ ap₂ behind same.1 later ∙ sym is'
+module _ (limits : Limits) (law : KeepsSound) where
+  -- what is asserted is a formula
+  formula_of : (now : RunState) (words : List Word) (what : syntax.Command) (session : State) → IsRight now → elaborate now.session words ≡ Ok (answered what session) → (formula : Formula) → what ≡ command.Assert formula → IsFormula formula
+  formula_of now words what session right elaborated formula is = ((law now.session words (answered what session) right.session elaborated).1 formula is).0
+
+  -- a command is answered in one way
+  pub replies_once : (now : RunState) (words : List Word) (c d : syntax.Command) (s t : RunState) (a b : List ℕ) → IsRight now → Replies limits now words c s a → Replies limits now words d t b → (c ≡ d) × (s ≡ t) × (a ≡ b)
+  replies_once now words c d s t a b right one other =
+      let same : answered c s.session ≡ answered d t.session = ok_once (elaborate now.session words) (answered c s.session) (answered d t.session) one.elaborated other.elaborated in
+      let what : c ≡ d = ap (λ (answer : commands.Answer). answer.command) same in
+      let session : s.session ≡ t.session = ap (λ (answer : commands.Answer). answer.state) same in
+      let also : Does limits c now.assertions t.assertions = subst (λ (x : syntax.Command). Does limits x now.assertions t.assertions) (sym what) other.does in
+      let assertions : s.assertions ≡ t.assertions = does_once limits c now.assertions s.assertions t.assertions right.tables (formula_of now words c s.session right one.elaborated) one.does also in
+      let state : s ≡ t = ap₂ run_state session assertions in
+      let responds : IsResponse c now s b = subst (λ (u : RunState). IsResponse c now u b) (sym state) (subst (λ (x : syntax.Command). IsResponse x now t b) (sym what) other.responds) in
+      (what, state, response_once c now s a b one.responds responds)
+
+  -- and then not refused
+  pub refused_replies : {P : Type 0} (now : RunState) (words : List Word) (line : List ℕ) (c : syntax.Command) (s : RunState) (a : List ℕ) → IsRight now → IsRefused now words line → Replies limits now words c s a → P
+  refused_replies now words line c s a right (inl (fault, refused, is)) replies = not_both (elaborate now.session words) (answered c s.session) fault replies.elaborated refused
+  refused_replies now words line c s a right (inr (fault, room, is)) replies =
+      let same : answered c s.session ≡ answered (command.Assert room.formula) room.session = ok_once (elaborate now.session words) (answered c s.session) (answered (command.Assert room.formula) room.session) replies.elaborated room.elaborated in
+      let what : c ≡ command.Assert room.formula = ap (λ (answer : commands.Answer). answer.command) same in
+      absurd (no_room room.formula now.assertions s.assertions room.after fault (formula_of now words (command.Assert room.formula) room.session right room.elaborated room.formula refl) right.tables room.is_room
+      (subst (λ (x : syntax.Command). Does limits x now.assertions s.assertions) what replies.does) room.stops)
+
+  -- a command is refused in one way
+  pub refused_once : (now : RunState) (words : List Word) (one other : List ℕ) → IsRight now → IsRefused now words one → IsRefused now words other → one ≡ other
+  refused_once now words one other right (inl (fault, refused, is)) (inl (fault', refused', is')) = is ∙ ap refusal_line (err_once (elaborate now.session words) fault fault' refused refused') ∙ sym is'
+  refused_once now words one other right (inl (fault, refused, is)) (inr (fault', room, is')) = not_both (elaborate now.session words) (answered (command.Assert room.formula) room.session) fault room.elaborated refused
+  refused_once now words one other right (inr (fault, room, is)) (inl (fault', refused', is')) = not_both (elaborate now.session words) (answered (command.Assert room.formula) room.session) fault' room.elaborated refused'
+  refused_once now words one other right (inr (fault, room, is)) (inr (fault', room', is')) =
+      let same : answered (command.Assert room.formula) room.session ≡ answered (command.Assert room'.formula) room'.session = ok_once (elaborate now.session words) (answered (command.Assert room.formula) room.session) (answered (command.Assert room'.formula) room'.session) room.elaborated room'.elaborated in
+      let what : command.Assert room.formula ≡ command.Assert room'.formula = ap (λ (answer : commands.Answer). answer.command) same in
+      let formulas : room.formula ≡ room'.formula = cc in
+      is ∙ ap (room_line words) (room_once room.formula now.assertions room.after room'.after fault fault' (formula_of now words (command.Assert room.formula) room.session right room.elaborated room.formula refl) right.tables room.is_room room'.is_room room.stops
+      (subst (λ (f : Formula). StopsAssert f now.assertions room'.after fault') (sym formulas) room'.stops)) ∙ sym is'
+
+  -- what a command leaves is right
+  pub right_after : (now : RunState) (words : List Word) (c : syntax.Command) (s : RunState) (a : List ℕ) → IsRight now → Replies limits now words c s a → IsRight s
+  right_after now words c s a right replies = record {
+    session = (law now.session words (answered c s.session) right.session replies.elaborated).0;
+    tables = does_tables limits c now.assertions s.assertions right.tables (formula_of now words c s.session right replies.elaborated) replies.does;
+  }
+
+  -- a script has one answer
+  pub answer_once : (known : Bool) (script : Script) (now : RunState) (a b : Answer) → IsRight now → IsAnswer limits known script now a → IsAnswer limits known script now b → a ≡ b
+  unfolding IsAnswer
+  answer_once known End now a b right one other = one ∙ sym other
+  answer_once known (Fault fault) now a b right one other = one ∙ sym other
+  answer_once known (Command words rest) now a b right (inl (line, refused, is)) (inl (line', refused', is')) = is ∙ ap failure (refused_once now words line line' right refused refused') ∙ sym is'
+  answer_once known (Command words rest) now a b right (inl (line, refused, is)) (inr (inl (t, text, replies, is'))) = refused_replies now words line command.Exit t text right refused replies
+  answer_once known (Command words rest) now a b right (inl (line, refused, is)) (inr (inr (d, t, text, after, not, replies, goes, is'))) = refused_replies now words line d t text right refused replies
+  answer_once known (Command words rest) now a b right (inr (inl (s, text, replies, is))) (inl (line, refused, is')) = refused_replies now words line command.Exit s text right refused replies
+  answer_once known (Command words rest) now a b right (inr (inl (s, text, replies, is))) (inr (inl (t, text', replies', is'))) =
+      is ∙ ap (λ (x : List ℕ). last x Finished) (replies_once now words command.Exit command.Exit s t text text' right replies replies').2 ∙ sym is'
+  answer_once known (Command words rest) now a b right (inr (inl (s, text, replies, is))) (inr (inr (d, t, text', after, not, replies', goes, is'))) =
+      absurd (not (sym (replies_once now words command.Exit d s t text text' right replies replies').0))
+  answer_once known (Command words rest) now a b right (inr (inr (c, s, text, after, not, replies, goes, is))) (inl (line, refused, is')) = refused_replies now words line c s text right refused replies
+  answer_once known (Command words rest) now a b right (inr (inr (c, s, text, after, not, replies, goes, is))) (inr (inl (t, text', replies', is'))) =
+      absurd (not (replies_once now words c command.Exit s t text text' right replies replies').0)
+  answer_once known (Command words rest) now a b right (inr (inr (c, s, text, after, not, replies, goes, is))) (inr (inr (d, t, text', after', not', replies', goes', is'))) =
+      let same = replies_once now words c d s t text text' right replies replies' in
+      let later = answer_once known rest s after after' (right_after now words c s text right replies) goes (subst (λ (u : RunState). IsAnswer limits known rest u after') (sym same.1) goes') in
+      is ∙ ap₂ behind same.2 later ∙ sym is'

@@ -1,5 +1,5 @@
 -- How far a run has come, and what it leaves where it ends.
-use Rattle.std.proofs.Common.{◌≡◌, inl, inr, ℕ, Bool, true, false, List, [], ◌∷◌, ◌++◌, refl, ap, sym, ◌∙◌, Option, append_assoc, subst}
+use Rattle.std.proofs.Common.{◌≡◌, ◌≢◌, inl, inr, ℕ, Bool, true, false, List, [], ◌∷◌, ◌++◌, refl, ap, sym, ◌∙◌, Option, append_assoc, subst}
 use Rattle.std.specs.Io.KnownBytes.{Consumes}
 use Rattle.std.proofs.lemmas.List.{append-nil}
 use Rattle.em_outside.specs.Bytes.{Appended}
@@ -12,12 +12,17 @@ use Rattle.smt_text.specs.Reading.{Reading, script, start}
 use Rattle.smt_text.specs.declared.byte_fault.ByteFault.{ByteFault}
 use Rattle.smt_text.specs.declared.byte_fault.ByteFault.TheVariants.{BadByte, Unclosed, Stray, TooDeep, TooLong}
 use Rattle.smt_text.specs.declared.token.Place.{Place}
-use Rattle.ematch_cli.specs.Run.{RunState, Replies, IsRefused}
-use Rattle.ematch_cli.specs.Output.{Answer, Open, Finished, Failed, IsAnswer, behind, failure, silence, at_end, opening, IsOutputSoFar}
-use Rattle.ematch_cli.specs.ErrorLine.{fault_line, not_built}
+use Rattle.smt_names.specs.Names.{at_start}
+use Rattle.smt_commands.specs.SessionLaws.{IsSound, KeepsSound}
+use Rattle.smt_commands.specs.declared.command.Command as syntax
+use Rattle.smt_commands.specs.declared.command.Command.TheVariants.{Exit}
+use Rattle.ematch_cli.specs.RunState.{RunState}
+use Rattle.ematch_cli.specs.Run.{Replies, IsRefused}
+use Rattle.ematch_cli.specs.Output.{Answer, Ending, Open, Finished, Failed, IsAnswer, behind, failure, last, silence, at_end, opening, IsOutputSoFar}
+use Rattle.ematch_cli.specs.ErrorLine.{fault_line}
 use Rattle.ematch_cli.specs.Headline.{BeginsWith, WroteFrontOf, Answers}
 use Rattle.ematch_cli.specs.declared.status.Status.TheVariants as status
-use Rattle.ematch_cli.proofs.OneAnswer.{replies_once, refused_replies}
+use Rattle.ematch_cli.proofs.OneAnswer.{IsRight, right_opening, right_after, replies_once, refused_replies}
 
 -- a script that begins with these commands
 abbrev pub commands_then : List (List Word) → Script → Script
@@ -28,64 +33,82 @@ pub commands_then-push : (commands : List (List Word)) (words : List Word) (rest
 commands_then-push [] words rest = refl
 commands_then-push (first ∷ commands) words rest = ap (Command first) (commands_then-push commands words rest)
 
--- the commands are answered by the text, one after another
-abbrev pub RepliesAll : RunState → List (List Word) → RunState → List ℕ → Type 0
-RepliesAll state [] later text = (later ≡ state) × (text ≡ [])
-RepliesAll state (words ∷ commands) later text = (mid : RunState) × (first : List ℕ) × (rest : List ℕ) × Replies state words mid first × RepliesAll mid commands later rest × (text ≡ first ++ rest)
-
-pub replies_all-push : (commands : List (List Word)) (state mid later : RunState) (text more : List ℕ) (words : List Word)
-    → RepliesAll state commands mid text → Replies mid words later more → RepliesAll state (commands ++ words ∷ []) later (text ++ more)
-replies_all-push [] state mid later text more words (is, none) replies =
-    (later, more, [], subst (λ (s : RunState). Replies s words later more) is replies, (refl, refl), ap (λ (t : List ℕ). t ++ more) none ∙ sym (append-nil more))
-replies_all-push (command ∷ commands) state mid later text more words (next, first, rest, one, others, is) replies =
-    (next, first, rest ++ more, one, replies_all-push commands next mid later rest more words others replies, ap (λ (t : List ℕ). t ++ more) is ∙ append_assoc first rest more)
+-- the commands, none of which is `exit`, are answered by the text, one after another
+abbrev pub RepliesAll : Limits → RunState → List (List Word) → RunState → List ℕ → Type 0
+RepliesAll limits state [] later text = (later ≡ state) × (text ≡ [])
+RepliesAll limits state (words ∷ commands) later text =
+    (command : syntax.Command) × (mid : RunState) × (first : List ℕ) × (rest : List ℕ) × (command ≢ Exit) × Replies limits state words command mid first × RepliesAll limits mid commands later rest × (text ≡ first ++ rest)
 
 behind-behind : (first second : List ℕ) (answer : Answer) → behind first (behind second answer) ≡ behind (first ++ second) answer
 behind-behind first second answer = ap (λ (bytes : List ℕ). record answer { bytes = bytes }) (sym (append_assoc first second answer.bytes))
 
--- what is answered behind the commands is answered behind their text
-answers_behind : (known : Bool) (commands : List (List Word)) (rest : Script) (state later : RunState) (text : List ℕ) (answer : Answer)
-    → RepliesAll state commands later text → IsAnswer known rest later answer → IsAnswer known (commands_then commands rest) state (behind text answer)
-unfolding IsAnswer
-answers_behind known [] rest state later text answer (is, none) answered =
-    subst (λ (t : List ℕ). IsAnswer known rest state (behind t answer)) (sym none) (subst (λ (s : RunState). IsAnswer known rest s answer) is answered)
-answers_behind known (words ∷ commands) rest state later text answer (mid, first, others, one, all, is) answered =
-    inr (
-      mid,
-      first,
-      behind others answer,
-      one,
-      answers_behind known commands rest mid later others answer all answered,
-      ap (λ (t : List ℕ). behind t answer) is ∙ sym (behind-behind first others answer),
-    )
+module _ (limits : Limits) where
+  pub replies_all-push : (commands : List (List Word)) (state mid later : RunState) (text more : List ℕ) (words : List Word) (command : syntax.Command)
+      → command ≢ Exit → RepliesAll limits state commands mid text → Replies limits mid words command later more → RepliesAll limits state (commands ++ words ∷ []) later (text ++ more)
+  replies_all-push [] state mid later text more words command goes (is, none) replies =
+      (command, later, more, [], goes, subst (λ (s : RunState). Replies limits s words command later more) is replies, (refl, refl), ap (λ (t : List ℕ). t ++ more) none ∙ sym (append-nil more))
+  replies_all-push (before ∷ commands) state mid later text more words command goes (first_command, next, first, rest, went, one, others, is) replies =
+      (first_command, next, first, rest ++ more, went, one, replies_all-push commands next mid later rest more words command goes others replies, ap (λ (t : List ℕ). t ++ more) is ∙ append_assoc first rest more)
 
--- and only that
-behind_only : (known : Bool) (commands : List (List Word)) (rest : Script) (state later : RunState) (text : List ℕ) (answer : Answer)
-    → RepliesAll state commands later text → IsAnswer known (commands_then commands rest) state answer → (after : Answer) × IsAnswer known rest later after × (answer ≡ behind text after)
-unfolding IsAnswer
-behind_only known [] rest state later text answer (is, none) answered =
-    (answer, subst (λ (s : RunState). IsAnswer known rest s answer) (sym is) answered, ap (λ (t : List ℕ). behind t answer) (sym none))
-behind_only known (words ∷ commands) rest state later text answer (mid, first, others, one, all, is) (inl refused) = refused_replies state words mid first refused.0 one
-behind_only known (words ∷ commands) rest state later text answer (mid, first, others, one, all, is) (inr (mid', first', after, replies, answered, answer_is)) =
-    let same = replies_once state words mid' mid first' first replies one in
-    let inner = behind_only known commands rest mid later others after all (subst (λ (s : RunState). IsAnswer known (commands_then commands rest) s after) same.0 answered) in
-    (inner.0, inner.1, answer_is ∙ ap (λ (t : List ℕ). behind t after) same.1 ∙ ap (behind first) inner.2 ∙ behind-behind first others inner.0 ∙ ap (λ (t : List ℕ). behind t inner.0) (sym is))
+  -- what is answered behind the commands is answered behind their text
+  answers_behind : (known : Bool) (commands : List (List Word)) (rest : Script) (state later : RunState) (text : List ℕ) (answer : Answer)
+      → RepliesAll limits state commands later text → IsAnswer limits known rest later answer → IsAnswer limits known (commands_then commands rest) state (behind text answer)
+  unfolding IsAnswer
+  answers_behind known [] rest state later text answer (is, none) answered =
+      subst (λ (t : List ℕ). IsAnswer limits known rest state (behind t answer)) (sym none) (subst (λ (s : RunState). IsAnswer limits known rest s answer) is answered)
+  answers_behind known (words ∷ commands) rest state later text answer (command, mid, first, others, goes, one, all, is) answered =
+      inr (
+        inr (
+          command,
+          mid,
+          first,
+          behind others answer,
+          goes,
+          one,
+          answers_behind known commands rest mid later others answer all answered,
+          ap (λ (t : List ℕ). behind t answer) is ∙ sym (behind-behind first others answer),
+        ),
+      )
+
+  module _ (law : KeepsSound) where
+    -- what the commands leave is right
+    pub right_after_all : (commands : List (List Word)) (state later : RunState) (text : List ℕ) → IsRight state → RepliesAll limits state commands later text → IsRight later
+    right_after_all [] state later text right (is, none) = subst IsRight (sym is) right
+    right_after_all (words ∷ commands) state later text right (command, mid, first, others, goes, one, all, is) = right_after_all commands mid later others (right_after limits law state words command mid first right one) all
+
+    -- and only that is answered
+    behind_only : (known : Bool) (commands : List (List Word)) (rest : Script) (state later : RunState) (text : List ℕ) (answer : Answer)
+        → IsRight state → RepliesAll limits state commands later text → IsAnswer limits known (commands_then commands rest) state answer → (after : Answer) × IsAnswer limits known rest later after × (answer ≡ behind text after)
+    unfolding IsAnswer
+    behind_only known [] rest state later text answer right (is, none) answered =
+        (answer, subst (λ (s : RunState). IsAnswer limits known rest s answer) (sym is) answered, ap (λ (t : List ℕ). behind t answer) (sym none))
+    behind_only known (words ∷ commands) rest state later text answer right (command, mid, first, others, goes, one, all, is) (inl (line, refused, said)) = refused_replies limits law state words line command mid first right refused one
+    behind_only known (words ∷ commands) rest state later text answer right (command, mid, first, others, goes, one, all, is) (inr (inl (mid', first', replies, said))) =
+        absurd (goes (replies_once limits law state words command Exit mid mid' first first' right one replies).0)
+    behind_only known (words ∷ commands) rest state later text answer right (command, mid, first, others, goes, one, all, is) (inr (inr (command', mid', first', after, went, replies, answered, said))) =
+        let same = replies_once limits law state words command' command mid' mid first' first right replies one in
+        let inner = behind_only known commands rest mid later others after (right_after limits law state words command mid first right one) all (subst (λ (s : RunState). IsAnswer limits known (commands_then commands rest) s after) same.1 answered) in
+        (inner.0, inner.1, said ∙ ap (λ (t : List ℕ). behind t after) same.2 ∙ ap (behind first) inner.2 ∙ behind-behind first others inner.0 ∙ ap (λ (t : List ℕ). behind t inner.0) (sym is))
 
 -- The bytes taken so far are commands, all of which were answered; what comes of more goes on behind them.
 pub record Reached (limits : Limits) (in0 in1 out0 out1 : Option (List ℕ)) (now : RunState) (rest : List ℕ → Script) : Type 0 where
+  pub law : KeepsSound
+  pub sound : IsSound (at_start limits)
   pub taken : List ℕ
   pub given : Consumes in0 in1 taken
   pub commands : List (List Word)
   pub script_is : (more : List ℕ) → script_of limits (taken ++ more) ≡ commands_then commands (rest more)
   pub text : List ℕ
   pub wrote : Appended out0 out1 text
-  pub replied : RepliesAll (opening limits) commands now text
+  pub replied : RepliesAll limits (opening limits) commands now text
 
 abbrev pub ahead : Reading → List ℕ → Script
 ahead reader more = script reader (reader.held ++ more)
 
-abbrev pub reached_start : (limits : Limits) (input out : Option (List ℕ)) → Reached limits input input out out (opening limits) (ahead (start limits))
-reached_start limits input out = record {
+abbrev pub reached_start : KeepsSound → (limits : Limits) (input out : Option (List ℕ)) → IsSound (at_start limits) → Reached limits input input out out (opening limits) (ahead (start limits))
+reached_start law limits input out sound = record {
+  law = law;
+  sound = sound;
   taken = [];
   given = Consumes-none input;
   commands = [];
@@ -99,6 +122,8 @@ reached_start limits input out = record {
 abbrev pub reached_read : (limits : Limits) (in0 in1 in2 out0 out1 : Option (List ℕ)) (now : RunState) (reader : Reading) (taken : List ℕ) → Reached limits in0 in1 out0 out1 now (ahead reader)
     → Consumes in1 in2 taken → Reached limits in0 in2 out0 out1 now (λ more. script reader ((reader.held ++ taken) ++ more))
 reached_read limits in0 in1 in2 out0 out1 now reader taken reached given = record {
+  law = reached.law;
+  sound = reached.sound;
   taken = reached.taken ++ taken;
   given = Consumes-then in0 in1 in2 reached.taken taken reached.given given;
   commands = reached.commands;
@@ -110,16 +135,18 @@ reached_read limits in0 in1 in2 out0 out1 now reader taken reached given = recor
 }
 
 -- a command was answered
-abbrev pub reached_reply : (limits : Limits) (in0 in1 out0 out1 out2 : Option (List ℕ)) (now later : RunState) (words : List Word) (text : List ℕ) (rest next : List ℕ → Script)
-    → Reached limits in0 in1 out0 out1 now rest → ((more : List ℕ) → rest more ≡ Command words (next more)) → Replies now words later text → Appended out1 out2 text → Reached limits in0 in1 out0 out2 later next
-reached_reply limits in0 in1 out0 out1 out2 now later words text rest next reached first replies wrote = record {
+abbrev pub reached_reply : (limits : Limits) (in0 in1 out0 out1 out2 : Option (List ℕ)) (now later : RunState) (words : List Word) (command : syntax.Command) (text : List ℕ) (rest next : List ℕ → Script)
+    → Reached limits in0 in1 out0 out1 now rest → ((more : List ℕ) → rest more ≡ Command words (next more)) → command ≢ Exit → Replies limits now words command later text → Appended out1 out2 text → Reached limits in0 in1 out0 out2 later next
+reached_reply limits in0 in1 out0 out1 out2 now later words command text rest next reached first goes replies wrote = record {
+  law = reached.law;
+  sound = reached.sound;
   taken = reached.taken;
   given = reached.given;
   commands = reached.commands ++ words ∷ [];
   script_is = λ more. reached.script_is more ∙ ap (commands_then reached.commands) (first more) ∙ sym (commands_then-push reached.commands words (next more));
   text = reached.text ++ text;
   wrote = Appended-then out0 out1 out2 reached.text text reached.wrote wrote;
-  replied = replies_all-push reached.commands (opening limits) now later reached.text text words reached.replied replies;
+  replied = replies_all-push limits reached.commands (opening limits) now later reached.text text words command goes reached.replied replies;
 }
 
 module _ (limits : Limits) (in0 in1 out0 out1 : Option (List ℕ)) (now : RunState) (rest : List ℕ → Script) (reached : Reached limits in0 in1 out0 out1 now rest) where
@@ -128,23 +155,27 @@ module _ (limits : Limits) (in0 in1 out0 out1 : Option (List ℕ)) (now : RunSta
   at_taken = ap (script_of limits) (sym (append-nil reached.taken)) ∙ reached.script_is []
 
   -- an answer to what is left is one to all behind the text
-  pub answered : (known : Bool) (more : List ℕ) (answer : Answer) → IsAnswer known (rest more) now answer → IsAnswer known (script_of limits (reached.taken ++ more)) (opening limits) (behind reached.text answer)
+  pub answered : (known : Bool) (more : List ℕ) (answer : Answer) → IsAnswer limits known (rest more) now answer → IsAnswer limits known (script_of limits (reached.taken ++ more)) (opening limits) (behind reached.text answer)
   answered known more answer is =
-      subst (λ (s : Script). IsAnswer known s (opening limits) (behind reached.text answer)) (sym (reached.script_is more))
-      (answers_behind known reached.commands (rest more) (opening limits) now reached.text answer reached.replied is)
+      subst (λ (s : Script). IsAnswer limits known s (opening limits) (behind reached.text answer)) (sym (reached.script_is more))
+      (answers_behind limits known reached.commands (rest more) (opening limits) now reached.text answer reached.replied is)
 
-  pub answered_taken : (known : Bool) (answer : Answer) → IsAnswer known (rest []) now answer → IsAnswer known (script_of limits reached.taken) (opening limits) (behind reached.text answer)
+  pub answered_taken : (known : Bool) (answer : Answer) → IsAnswer limits known (rest []) now answer → IsAnswer limits known (script_of limits reached.taken) (opening limits) (behind reached.text answer)
   answered_taken known answer is =
-      subst (λ (bytes : List ℕ). IsAnswer known (script_of limits bytes) (opening limits) (behind reached.text answer)) (append-nil reached.taken) (answered known [] answer is)
+      subst (λ (bytes : List ℕ). IsAnswer limits known (script_of limits bytes) (opening limits) (behind reached.text answer)) (append-nil reached.taken) (answered known [] answer is)
 
   -- and there is no other
-  pub answered_only : (known : Bool) (answer : Answer) → IsAnswer known (script_of limits reached.taken) (opening limits) answer → (after : Answer) × IsAnswer known (rest []) now after × (answer ≡ behind reached.text after)
+  pub answered_only : (known : Bool) (answer : Answer) → IsAnswer limits known (script_of limits reached.taken) (opening limits) answer → (after : Answer) × IsAnswer limits known (rest []) now after × (answer ≡ behind reached.text after)
   answered_only known answer is =
-      behind_only known reached.commands (rest []) (opening limits) now reached.text answer reached.replied (subst (λ (s : Script). IsAnswer known s (opening limits) answer) at_taken is)
+      behind_only limits reached.law known reached.commands (rest []) (opening limits) now reached.text answer (right_opening limits reached.sound) reached.replied (subst (λ (s : Script). IsAnswer limits known s (opening limits) answer) at_taken is)
 
   -- where what is left is answered by this alone, so is all that was taken
-  pub ends_only : (known : Bool) (end answer : Answer) → ((after : Answer) → IsAnswer known (rest []) now after → after ≡ end) → IsAnswer known (script_of limits reached.taken) (opening limits) answer → answer.ending ≡ end.ending
+  pub ends_only : (known : Bool) (end answer : Answer) → ((after : Answer) → IsAnswer limits known (rest []) now after → after ≡ end) → IsAnswer limits known (script_of limits reached.taken) (opening limits) answer → answer.ending ≡ end.ending
   ends_only known end answer only is = let inner = answered_only known answer is in ap (λ (a : Answer). a.ending) inner.2 ∙ ap (λ (a : Answer). a.ending) (only inner.0 inner.1)
+
+  -- what stands is right
+  pub right_now : IsRight now
+  right_now = right_after_all limits reached.law reached.commands (opening limits) now reached.text (right_opening limits reached.sound) reached.replied
 
   -- what was written so far is a front of each answer
   pub front_so_far : WroteFrontOf out0 out1 (IsOutputSoFar limits reached.taken)
@@ -167,57 +198,65 @@ open_failed e = absurd (cc)
 pub finished_failed : {P : Type 0} → Finished ≡ Failed → P
 finished_failed e = absurd (cc)
 
--- where the bytes are open, nothing more is answered
-pub open_answer : (rest : Script) (now : RunState) → IsOpen rest → IsAnswer false rest now (silence Open)
-unfolding IsAnswer
-open_answer End now is = refl
-open_answer (Fault (Unclosed place)) now is = refl
-open_answer (Fault (BadByte place)) now is = absurd is
-open_answer (Fault (Stray place)) now is = absurd is
-open_answer (Fault (TooDeep place)) now is = absurd is
-open_answer (Fault (TooLong place)) now is = absurd is
-open_answer (Command words rest) now is = absurd is
+module _ (limits : Limits) where
+  -- where the bytes are open, nothing more is answered
+  pub open_answer : (rest : Script) (now : RunState) → IsOpen rest → IsAnswer limits false rest now (silence Open)
+  unfolding IsAnswer
+  open_answer End now is = refl
+  open_answer (Fault (Unclosed place)) now is = refl
+  open_answer (Fault (BadByte place)) now is = absurd is
+  open_answer (Fault (Stray place)) now is = absurd is
+  open_answer (Fault (TooDeep place)) now is = absurd is
+  open_answer (Fault (TooLong place)) now is = absurd is
+  open_answer (Command words rest) now is = absurd is
 
-pub open_only : (rest : Script) (now : RunState) → IsOpen rest → (after : Answer) → IsAnswer false rest now after → after ≡ silence Open
-unfolding IsAnswer
-open_only End now is after answered = answered
-open_only (Fault (Unclosed place)) now is after answered = answered
-open_only (Fault (BadByte place)) now is after answered = absurd is
-open_only (Fault (Stray place)) now is after answered = absurd is
-open_only (Fault (TooDeep place)) now is after answered = absurd is
-open_only (Fault (TooLong place)) now is after answered = absurd is
-open_only (Command words rest) now is after answered = absurd is
+  pub open_only : (rest : Script) (now : RunState) → IsOpen rest → (after : Answer) → IsAnswer limits false rest now after → after ≡ silence Open
+  unfolding IsAnswer
+  open_only End now is after answered = answered
+  open_only (Fault (Unclosed place)) now is after answered = answered
+  open_only (Fault (BadByte place)) now is after answered = absurd is
+  open_only (Fault (Stray place)) now is after answered = absurd is
+  open_only (Fault (TooDeep place)) now is after answered = absurd is
+  open_only (Fault (TooLong place)) now is after answered = absurd is
+  open_only (Command words rest) now is after answered = absurd is
 
--- a fault that stands whatever comes is told
-pub fault_answer : (known : Bool) (byte : ByteFault) (now : RunState) → IsLasting byte → IsAnswer known (Fault byte) now (failure (fault_line byte))
-unfolding IsAnswer
-fault_answer true byte now lasting = refl
-fault_answer false (BadByte place) now lasting = refl
-fault_answer false (Stray place) now lasting = refl
-fault_answer false (TooDeep place) now lasting = refl
-fault_answer false (TooLong place) now lasting = refl
-fault_answer false (Unclosed place) now lasting = absurd lasting
+  -- a fault that stands whatever comes is told
+  pub fault_answer : (known : Bool) (byte : ByteFault) (now : RunState) → IsLasting byte → IsAnswer limits known (Fault byte) now (failure (fault_line byte))
+  unfolding IsAnswer
+  fault_answer true byte now lasting = refl
+  fault_answer false (BadByte place) now lasting = refl
+  fault_answer false (Stray place) now lasting = refl
+  fault_answer false (TooDeep place) now lasting = refl
+  fault_answer false (TooLong place) now lasting = refl
+  fault_answer false (Unclosed place) now lasting = absurd lasting
 
--- and so is a command that is open where the input ends
-pub unclosed : (now : RunState) (place : Place) → IsAnswer true (Fault (Unclosed place)) now (failure (fault_line (Unclosed place)))
-unfolding IsAnswer
-unclosed now place = refl
+  -- and so is a command that is open where the input ends
+  pub unclosed : (now : RunState) (place : Place) → IsAnswer limits true (Fault (Unclosed place)) now (failure (fault_line (Unclosed place)))
+  unfolding IsAnswer
+  unclosed now place = refl
 
-pub end_answer : (now : RunState) → IsAnswer true End now (silence Finished)
-unfolding IsAnswer
-end_answer now = refl
+  pub end_answer : (now : RunState) → IsAnswer limits true End now (silence Finished)
+  unfolding IsAnswer
+  end_answer now = refl
 
-pub end_only : (known : Bool) (now : RunState) (after : Answer) → IsAnswer known End now after → after ≡ at_end known
-unfolding IsAnswer
-end_only known now after answered = answered
+  pub end_only : (known : Bool) (now : RunState) (after : Answer) → IsAnswer limits known End now after → after ≡ at_end known
+  unfolding IsAnswer
+  end_only known now after answered = answered
 
-pub refused_answer : (known : Bool) (words : List Word) (rest : Script) (now : RunState) → IsRefused now words → IsAnswer known (Command words rest) now (failure not_built)
-unfolding IsAnswer
-refused_answer known words rest now refused = inl (refused, refl)
+  pub refused_answer : (known : Bool) (words : List Word) (rest : Script) (now : RunState) (line : List ℕ) → IsRefused now words line → IsAnswer limits known (Command words rest) now (failure line)
+  unfolding IsAnswer
+  refused_answer known words rest now line refused = inl (line, refused, refl)
 
--- a command that is answered begins each answer
-pub reply_begins : (known : Bool) (words : List Word) (rest : Script) (now later : RunState) (text : List ℕ) (answer : Answer) → Replies now words later text → IsAnswer known (Command words rest) now answer → BeginsWith text answer.bytes
-unfolding IsAnswer
-reply_begins known words rest now later text answer replies (inl refused) = refused_replies now words later text refused.0 replies
-reply_begins known words rest now later text answer replies (inr (mid, first, after, one, answered, is)) =
-    (after.bytes, ap (λ (a : Answer). a.bytes) is ∙ ap (λ (t : List ℕ). t ++ after.bytes) (replies_once now words mid later first text one replies).1)
+  -- `exit` ends each answer
+  pub exit_answer : (known : Bool) (words : List Word) (rest : Script) (now later : RunState) (text : List ℕ) → Replies limits now words Exit later text → IsAnswer limits known (Command words rest) now (last text Finished)
+  unfolding IsAnswer
+  exit_answer known words rest now later text replies = inr (inl (later, text, replies, refl))
+
+  -- a command that is answered begins each answer
+  pub reply_begins : KeepsSound → (known : Bool) (words : List Word) (rest : Script) (now later : RunState) (command : syntax.Command) (text : List ℕ) (answer : Answer) → IsRight now → Replies limits now words command later text → IsAnswer limits known (Command words rest) now answer → BeginsWith text answer.bytes
+  unfolding IsAnswer
+  reply_begins law known words rest now later command text answer right replies (inl (line, refused, is)) = refused_replies limits law now words line command later text right refused replies
+  reply_begins law known words rest now later command text answer right replies (inr (inl (other, first, one, is))) =
+      ([], ap (λ (a : Answer). a.bytes) is ∙ (replies_once limits law now words Exit command other later first text right one replies).2 ∙ sym (append-nil text))
+  reply_begins law known words rest now later command text answer right replies (inr (inr (what, mid, first, after, goes, one, answered, is))) =
+      (after.bytes, ap (λ (a : Answer). a.bytes) is ∙ ap (λ (t : List ℕ). t ++ after.bytes) (replies_once limits law now words what command mid later first text right one replies).2)

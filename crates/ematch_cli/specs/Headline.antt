@@ -25,14 +25,19 @@ WroteFront old new bytes = (front : List ℕ) × BeginsWith front bytes × Appen
 abbrev pub WroteFrontOf : Option (List ℕ) → Option (List ℕ) → (Answer → Type 0) → Type 0
 WroteFrontOf old new IsIt = (front : List ℕ) × ((answer : Answer) → IsIt answer → BeginsWith front answer.bytes) × Appended old new front
 
+-- The bytes taken end the answer so, whatever comes, or all bytes do, whose end was read; so the output of the whole input was
+-- written.
+abbrev pub Ends : Limits → Option (List ℕ) → List ℕ → Option (List ℕ) → Option (List ℕ) → Ending → Type 0
+Ends limits input taken old new ending =
+    (Wrote old new (IsOutputSoFar limits taken) ending ⊎ (Exhausts input taken × Wrote old new (IsOutput limits taken) ending))
+    × IfSome input (λ all. Wrote old new (IsOutput limits all) ending)
+
 -- What stands on the output after a run that took these bytes from an input that had some left.
 abbrev pub Stands : Limits → Option (List ℕ) → List ℕ → Option (List ℕ) → Option (List ℕ) → Status → Type 0
--- the whole input was read, and the whole output written
-Stands limits input taken old new Done = Exhausts input taken × Wrote old new (IsOutput limits taken) Finished
--- the bytes taken hold an error, or all bytes do whose end was read; so the output of the whole input was written
-Stands limits input taken old new ScriptError =
-    (Wrote old new (IsOutputSoFar limits taken) Failed ⊎ (Exhausts input taken × Wrote old new (IsOutput limits taken) Failed))
-    × IfSome input (λ all. Wrote old new (IsOutput limits all) Failed)
+-- the input was read to its end or to its `exit`, and the whole output written
+Stands limits input taken old new Done = Ends limits input taken old new Finished
+-- the input holds an error, and the whole output was written, of which the error's line is the last
+Stands limits input taken old new ScriptError = Ends limits input taken old new Failed
 -- the commands that are whole in the bytes taken were answered
 Stands limits input taken old new ReadFault = Wrote old new (IsOutputSoFar limits taken) Open
 -- a front of these answers was written, or one of the whole output, where the input's end was read

@@ -1,14 +1,18 @@
 -- The defined answer to a script.
-use Rattle.std.specs.Prelude.{◌≡◌, ◌⊎◌, ℕ, Bool, true, false, List, [], ◌++◌}
+use Rattle.std.specs.Prelude.{◌≡◌, ◌≢◌, ◌⊎◌, ℕ, Bool, true, false, List, [], ◌++◌}
 use Rattle.em_outside.specs.declared.limits.Limits.{Limits}
 use Rattle.smt_text.specs.Script.{Script, End, Fault, Command, script_of}
 use Rattle.smt_text.specs.declared.byte_fault.ByteFault.{ByteFault}
 use Rattle.smt_text.specs.declared.byte_fault.ByteFault.TheVariants.{Unclosed}
-use Rattle.smt_syntax.specs.State.{start}
-use Rattle.ematch_cli.specs.ErrorLine.{fault_line, not_built}
-use Rattle.ematch_cli.specs.Run.{RunState, Replies, IsRefused}
+use Rattle.smt_names.specs.Names.{at_start}
+use Rattle.assertion_stack.specs.Assertions.{no_assertions}
+use Rattle.smt_commands.specs.declared.command.Command as syntax
+use Rattle.smt_commands.specs.declared.command.Command.TheVariants.{Exit}
+use Rattle.ematch_cli.specs.ErrorLine.{fault_line}
+use Rattle.ematch_cli.specs.Run.{Replies, IsRefused}
+use Rattle.ematch_cli.specs.RunState.{RunState, run_state}
 
--- how the answer to some bytes ends: more may follow, or by the end of the script, or by an error
+-- how the answer to some bytes ends: more may follow, or by the end of the script or its `exit`, or by an error
 pub data Ending : Type 0 where
   Open : Ending
   Finished : Ending
@@ -23,13 +27,17 @@ pub record Answer : Type 0 where
 abbrev pub behind : List ℕ → Answer → Answer
 behind bytes answer = record answer { bytes = bytes ++ answer.bytes }
 
+-- the answer that ends so with these bytes
+abbrev pub last : List ℕ → Ending → Answer
+last text ending = record { bytes = text; ending = ending }
+
 -- the answer that an error with this line ends
 abbrev pub failure : List ℕ → Answer
-failure text = record { bytes = text; ending = Failed }
+failure text = last text Failed
 
 -- nothing more is answered
 abbrev pub silence : Ending → Answer
-silence ending = record { bytes = []; ending = ending }
+silence ending = last [] ending
 
 -- the answer at the end of the bytes: where it is not known that no more come, they may go on
 abbrev pub at_end : Bool → Answer
@@ -42,22 +50,24 @@ at_fault false (Unclosed place) = silence Open
 at_fault known fault = failure (fault_line fault)
 
 -- The answer to a script from a state on: the answers to its commands in order, up to the first that is refused, to
--- the first fault of its bytes, or to their end, of which it is known or not whether it is the script's.
-unfoldable pub IsAnswer : (known : Bool) → Script → RunState → Answer → Type 0
-IsAnswer known End state answer = answer ≡ at_end known
-IsAnswer known (Fault fault) state answer = answer ≡ at_fault known fault
-IsAnswer known (Command words rest) state answer =
-    (IsRefused state words × (answer ≡ failure not_built))
-    ⊎ ((later : RunState) × (text : List ℕ) × (after : Answer) × Replies state words later text × IsAnswer known rest later after × (answer ≡ behind text after))
+-- `exit`, to the first fault of its bytes, or to their end, of which it is known or not whether it is the script's.
+unfoldable pub IsAnswer : Limits → (known : Bool) → Script → RunState → Answer → Type 0
+IsAnswer limits known End state answer = answer ≡ at_end known
+IsAnswer limits known (Fault fault) state answer = answer ≡ at_fault known fault
+IsAnswer limits known (Command words rest) state answer =
+    ((line : List ℕ) × IsRefused state words line × (answer ≡ failure line))
+    ⊎ (((later : RunState) × (text : List ℕ) × Replies limits state words Exit later text × (answer ≡ last text Finished))
+    ⊎ ((command : syntax.Command) × (later : RunState) × (text : List ℕ) × (after : Answer)
+    × (command ≢ Exit) × Replies limits state words command later text × IsAnswer limits known rest later after × (answer ≡ behind text after)))
 
 -- before the first command
 abbrev pub opening : Limits → RunState
-opening limits = record { session = start limits; graph = record { standing = []; done = 0; limit = limits.terms } }
+opening limits = run_state (at_start limits) (no_assertions limits.terms limits.nodes)
 
 -- the answer to all the bytes of a script
 abbrev pub IsOutput : Limits → List ℕ → Answer → Type 0
-IsOutput limits bytes answer = IsAnswer true (script_of limits bytes) (opening limits) answer
+IsOutput limits bytes answer = IsAnswer limits true (script_of limits bytes) (opening limits) answer
 
 -- the answer to the bytes of a script so far
 abbrev pub IsOutputSoFar : Limits → List ℕ → Answer → Type 0
-IsOutputSoFar limits bytes answer = IsAnswer false (script_of limits bytes) (opening limits) answer
+IsOutputSoFar limits bytes answer = IsAnswer limits false (script_of limits bytes) (opening limits) answer

@@ -1,116 +1,60 @@
--- What a command does to the graph, and what is answered to it.
-use Rattle.std.specs.Prelude.{◌≡◌, ℕ, zero, suc, ◌+◌, ◌-◌, ◌<◌, ◌⊎◌, List, [], ◌∷◌, ◌++◌, map, length, get_or, slice_get}
-use Rattle.std.specs.Option.{option_map_or}
-use Rattle.term_table.specs.declared.term_row.TermRow.{TermRow}
-use Rattle.term_table.specs.declared.done.Done.{Done}
-use Rattle.term_table.specs.declared.op.Op.{Op}
-use Rattle.term_table.specs.declared.op.Op.TheVariants.{Add, Merge, Live, Push, Pop}
-use Rattle.term_table.specs.declared.trigger.Trigger.{Trigger}
-use Rattle.term_table.specs.Terms.{term_row, HasRow, IsAbsent}
-use Rattle.term_table.specs.Standing.{terms_of, triggers_of}
-use Rattle.term_table.specs.State.{GraphState, state_after}
+-- What a command does, and what is answered to it.
+use Rattle.std.specs.Prelude.{◌≡◌, ◌≢◌, ◌⊎◌, ℕ, zero, suc, List, Ok, Err}
+use Rattle.em_outside.specs.declared.limits.Limits.{Limits}
 use Rattle.smt_text.specs.Word.{Word}
-use Rattle.smt_syntax.specs.State.{State}
-use Rattle.smt_syntax.specs.Elaborate.{Elaborates, IsNotOfForm}
-use Rattle.smt_syntax.specs.declared.command.Command.{Command}
-use Rattle.smt_syntax.specs.declared.command.Command.TheVariants as command
-use Rattle.smt_syntax.specs.declared.shape.Shape.{Shape}
-use Rattle.smt_syntax.specs.declared.shape.Shape.TheVariants.{Equation, Forall}
-use Rattle.ematch_cli.specs.Names.{names_of}
-use Rattle.ematch_cli.specs.Listing.{IsListing}
+use Rattle.formula_shape.specs.Draft.{Formula}
+use Rattle.formula_table.specs.declared.enter_fault.EnterFault.{EnterFault}
+use Rattle.formula_table.specs.declared.enter_fault.EnterFault.TheVariants.{Memory}
+use Rattle.assertion_stack.specs.Assertions.{Assertions, no_assertions, pushed, popped}
+use Rattle.assertion_stack.specs.AssertShape.{AssertsFormula, StopsAssert}
+use Rattle.smt_names.specs.Names.{State}
+use Rattle.smt_names.specs.declared.syntax_fault.SyntaxFault.{SyntaxFault}
+use Rattle.smt_commands.specs.Commands.{Answer, elaborate}
+use Rattle.smt_commands.specs.declared.command.Command.{Command}
+use Rattle.smt_commands.specs.declared.command.Command.TheVariants as command
+use Rattle.ematch_cli.specs.ErrorLine.{refusal_line, room_line}
+use Rattle.ematch_cli.specs.Response.{IsResponse}
+use Rattle.ematch_cli.specs.RunState.{RunState}
 
--- a row of a shape with terms in place of the rows that it names
-abbrev pub placed : List ℕ → TermRow → TermRow
-placed terms row = term_row row.symbol (map (λ arg. get_or terms arg 0) row.args)
+-- so many times
+abbrev pub repeated : ℕ → (Assertions → Assertions) → Assertions → Assertions
+repeated zero change now = now
+repeated (suc n) change now = repeated n change (change now)
 
--- the row stands under this term alone
-abbrev pub StandsUnder : List TermRow → TermRow → ℕ → Type 0
-StandsUnder rows row term = HasRow rows term row × ((other : ℕ) → HasRow rows other row → other ≡ term)
+-- What a command does to the standing assertions: a formula is asserted, levels are opened or closed, or all are forgotten.
+abbrev pub Does : Limits → Command → Assertions → Assertions → Type 0
+Does limits (command.Assert formula) before after = AssertsFormula formula before after
+Does limits (command.Push count) before after = after ≡ repeated count pushed before
+Does limits (command.Pop count) before after = after ≡ repeated count popped before
+Does limits command.Reset before after = after ≡ no_assertions limits.terms limits.nodes
+Does limits command.ResetAssertions before after = after ≡ no_assertions limits.terms limits.nodes
+Does limits command.Silent before after = after ≡ before
+Does limits command.Unsupported before after = after ≡ before
+Does limits command.CheckSat before after = after ≡ before
+Does limits (command.GetInfo info) before after = after ≡ before
+Does limits command.Exit before after = after ≡ before
 
--- The row is entered: it stands under the term already, or is a new term at the end, for which there is room.
-abbrev pub EntersRow : GraphState → TermRow → ℕ → GraphState → Type 0
-EntersRow graph row term later =
-    (StandsUnder (terms_of graph.standing) row term × (later ≡ graph))
-    ⊎ (IsAbsent (terms_of graph.standing) row × (length (terms_of graph.standing) < graph.limit) × (term ≡ length (terms_of graph.standing)) × (later ≡ state_after graph (Add row.symbol row.args)))
+-- what a command answers, with the session after it
+abbrev pub answered : Command → State → Answer
+answered command state = record { command = command; state = state }
 
--- The rows of a shape are entered in order, where earlier rows are these terms: then all rows are so.
-abbrev pub Enters : GraphState → List ℕ → List TermRow → GraphState → List ℕ → Type 0
-Enters graph terms [] later all = (later ≡ graph) × (all ≡ terms)
-Enters graph terms (row ∷ rows) later all = (term : ℕ) × (next : GraphState) × EntersRow graph (placed terms row) term next × Enters next (terms ++ term ∷ []) rows later all
+-- The words mean the command, which is done and answered by the text.
+pub record Replies (limits : Limits) (before : RunState) (words : List Word) (command : Command) (after : RunState) (text : List ℕ) : Type 0 where
+  pub elaborated : elaborate before.session words ≡ Ok (answered command after.session)
+  pub does : Does limits command before.assertions after.assertions
+  pub responds : IsResponse command before after text
 
--- the row is new where as many terms stand as may
-abbrev pub HasNoRoomFor : GraphState → TermRow → Type 0
-HasNoRoomFor graph row = IsAbsent (terms_of graph.standing) row × (length (terms_of graph.standing) ≡ graph.limit)
-
--- while the rows are entered in order, there is no room for one
-abbrev pub HaveNoRoom : GraphState → List ℕ → List TermRow → Type 0
-HaveNoRoom graph terms [] = ⊥
-HaveNoRoom graph terms (row ∷ rows) =
-    HasNoRoomFor graph (placed terms row)
-    ⊎ ((term : ℕ) × (next : GraphState) × EntersRow graph (placed terms row) term next × HaveNoRoom next (terms ++ term ∷ []) rows)
-
--- the graph after an equation between two of these terms
-abbrev pub merged : GraphState → List ℕ → ℕ → ℕ → GraphState
-merged graph terms left right = state_after graph (Merge (get_or terms left 0) (get_or terms right 0))
-
--- The number that the next forall gets: foralls are numbered in order from 0, and a pop takes numbers back.
-abbrev pub next_forall : List Done → ℕ
-next_forall standing = option_map_or (λ trigger. trigger.forall + 1) (slice_get (triggers_of standing) (length (triggers_of standing) - 1)) 0
-
--- the graph after the triggers of one forall became live, in order
-abbrev pub live_after : GraphState → ℕ → List Trigger → GraphState
-live_after graph number [] = graph
-live_after graph number (trigger ∷ triggers) = live_after (state_after graph (Live (record trigger { forall = number }))) number triggers
-
--- the graph after one operation so many times
-abbrev pub repeated : ℕ → Op → GraphState → GraphState
-repeated zero op graph = graph
-repeated (suc n) op graph = repeated n op (state_after graph op)
-
--- What an assertion does to the graph: the rows of an equation are entered, and their terms merged; the triggers of a forall become live.
-abbrev pub Asserts : GraphState → Shape → GraphState → Type 0
-Asserts graph (Equation rows left right) later = (entered : GraphState) × (terms : List ℕ) × Enters graph [] rows entered terms × (later ≡ merged entered terms left right)
-Asserts graph (Forall triggers) later = later ≡ live_after graph (next_forall graph.standing) triggers
-
--- the assertion asks for one term more than there may be
-abbrev pub AsksTooMuch : GraphState → Shape → Type 0
-AsksTooMuch graph (Equation rows left right) = HaveNoRoom graph [] rows
-AsksTooMuch graph (Forall triggers) = ⊥
-
--- What a command does to the graph, and the text that answers it.
-abbrev pub Acts : (ℕ → List ℕ) → GraphState → Command → GraphState → List ℕ → Type 0
-Acts names graph command.Silent later text = (later ≡ graph) × (text ≡ [])
-Acts names graph (command.Assert shape) later text = Asserts graph shape later × (text ≡ [])
-Acts names graph (command.Push count) later text = (later ≡ repeated count Push graph) × (text ≡ [])
-Acts names graph (command.Pop count) later text = (later ≡ repeated count Pop graph) × (text ≡ [])
-Acts names graph command.CheckSat later text = (later ≡ graph) × IsListing names graph.standing text
-
--- so does the command
-abbrev pub NeedsTooMuch : GraphState → Command → Type 0
-NeedsTooMuch graph (command.Assert shape) = AsksTooMuch graph shape
-NeedsTooMuch graph command = ⊥
-
--- what a run knows between two commands: the declarations and levels, and the graph
-pub record RunState : Type 0 where
+-- The words assert a formula for which there is no room.
+pub record FindsNoRoom (before : RunState) (words : List Word) (fault : EnterFault) : Type 0 where
+  pub formula : Formula
   pub session : State
-  pub graph : GraphState
+  pub elaborated : elaborate before.session words ≡ Ok (answered (command.Assert formula) session)
+  pub after : Assertions
+  pub stops : StopsAssert formula before.assertions after fault
+  pub is_room : fault ≢ Memory
 
-abbrev pub run_state : State → GraphState → RunState
-run_state session graph = record { session = session; graph = graph }
-
--- The command of these words is answered by the text, and leaves the later state.
-pub record Replies (state : RunState) (words : List Word) (later : RunState) (text : List ℕ) : Type 0 where
-  pub command : Command
-  pub elaborated : Elaborates state.session words command later.session
-  pub acts : Acts (names_of later.session) state.graph command later.graph text
-
--- The command of these words asks for too many terms.
-pub record HasNoRoom (state : RunState) (words : List Word) : Type 0 where
-  pub command : Command
-  pub session : State
-  pub elaborated : Elaborates state.session words command session
-  pub too_much : NeedsTooMuch state.graph command
-
--- The command of these words is refused: it is none of the form, or asks for too many terms.
-abbrev pub IsRefused : RunState → List Word → Type 0
-IsRefused state words = IsNotOfForm state.session words ⊎ HasNoRoom state words
+-- The command is refused with this line: as it is read, or because there is no room for what it asserts.
+abbrev pub IsRefused : RunState → List Word → List ℕ → Type 0
+IsRefused before words text =
+    ((fault : SyntaxFault) × (elaborate before.session words ≡ Err fault) × (text ≡ refusal_line fault))
+    ⊎ ((fault : EnterFault) × FindsNoRoom before words fault × (text ≡ room_line words fault))

@@ -1,6 +1,8 @@
 -- What a status is to those outside.
 use Rattle.std.specs.Prelude.{ℕ, List, [], codes}
 use Rattle.ematch_cli.specs.Listing.{line}
+use Rattle.smt_text.specs.declared.fault.TextFault.{TextFault}
+use Rattle.smt_text.specs.declared.fault.TextFault.TheVariants as fault
 use Rattle.ematch_cli.specs.declared.status.Status.{Status}
 use Rattle.ematch_cli.specs.declared.status.Status.TheVariants.{Done, ScriptError, WordsRefused, ReadFault, WriteFault, NoMemory}
 
@@ -21,3 +23,8 @@ text_of WordsRefused = line (codes "ematch: words refused")
 text_of ReadFault = line (codes "ematch: read failed")
 text_of WriteFault = line (codes "ematch: write failed")
 text_of NoMemory = line (codes "ematch: no memory")
+
+-- the status where a script could not be read on
+abbrev pub outside_status : TextFault → Status
+outside_status fault.ReadFault = ReadFault
+outside_status fault = NoMemory

@@ -1,7 +1,7 @@
 //! The listing of all matches, as a text.
-ghost use Rattle.std.specs.Prelude.{◌≡◌, ◌<◌, ◌++◌, All, length, IfOk, OnOk};
+ghost use Rattle.std.specs.Prelude.{◌≡◌, ◌<◌, ◌++◌, All, length, slice_get, Some, IfOk, OnOk};
 ghost use Rattle.term_table.specs.Standing.{terms_of, triggers_of};
-ghost use Rattle.term_table.specs.Trigger.{IsValid};
+ghost use Rattle.term_table.specs.declared.trigger.Trigger.{Trigger};
 ghost use Rattle.ematch_cli.specs.Names.{names_of};
 ghost use Rattle.ematch_cli.specs.Joined.{AreJoined};
 ghost use Rattle.ematch_cli.specs.Printed.{IsEntry};
@@ -9,8 +9,8 @@ ghost use Rattle.ematch_cli.specs.Listing.{heading, IsTupleLine, IsTriggerListin
 ghost use Rattle.ematch_cli.specs.Writing.{Puts};
 
 use crate::printed::{push_entry, push_number};
-use plain_graph::list_matches;
-use smt_syntax::Session;
+use matching_graph::MatchingGraph;
+use smt_commands::Session;
 use std::alloc::{AllocError, Global};
 use term_table::{ClassGraph, Memory, Numbers, Trigger};
 
@@ -77,47 +77,47 @@ fn push_tuples<G: ClassGraph>(
     Ok(())
 }
 
-/// Writes the heading of a trigger and its matches.
-fn push_trigger<G: ClassGraph>(
+/// Writes the heading of the live trigger with the number, and its matches.
+fn push_trigger(
     alloc: Global,
     text: &mut Vec<u8>,
     session: &Session,
-    graph: &G,
-    trigger: &Trigger,
+    graph: &MatchingGraph,
+    n: u32,
 ) -> Result<(), Memory>
-    requires { IsValid trigger.now }
-    ensures { OnOk result (Puts (IsTriggerListing (names_of session.now) (G.standing graph.now) trigger.now) text.old.items text.new.items) }
+    requires { n < length (triggers_of graph.now.standing) }
+    ensures { OnOk result (Puts (λ added. (trigger : Trigger) × (slice_get (triggers_of graph.now.standing) n ≡ Some trigger) × IsTriggerListing (names_of session.now) graph.now.standing trigger added) text.old.items text.new.items) }
 {
     let _terms = graph.len();
-    let tuples = list_matches(alloc, graph, trigger)?;
-    push_heading(text, trigger, tuples.len())?;
+    let tuples = graph.matches(alloc, n)?;
+    push_heading(text, graph.trigger(n), tuples.len())?;
     push_tuples(text, session, graph, tuples.as_slice())?;
     Ok(())
 }
 
 /// Writes the listings of all live triggers in order.
-fn push_triggers<G: ClassGraph>(
+fn push_triggers(
     alloc: Global,
     text: &mut Vec<u8>,
     session: &Session,
-    graph: &G,
+    graph: &MatchingGraph,
 ) -> Result<(), Memory>
-    ensures { OnOk result (Puts (AreJoined (IsTriggerListing (names_of session.now) (G.standing graph.now)) (triggers_of (G.standing graph.now))) text.old.items text.new.items) }
+    ensures { OnOk result (Puts (AreJoined (IsTriggerListing (names_of session.now) graph.now.standing) (triggers_of graph.now.standing)) text.old.items text.new.items) }
 {
     let _terms = graph.len();
     for n in 0..graph.triggers() {
-        push_trigger(alloc, text, session, graph, graph.trigger(n))?;
+        push_trigger(alloc, text, session, graph, n)?;
     }
     Ok(())
 }
 
 /// The listing at a check.
-pub(crate) fn listing<G: ClassGraph>(
+pub(crate) fn listing(
     alloc: Global,
     session: &Session,
-    graph: &G,
+    graph: &MatchingGraph,
 ) -> Result<Vec<u8>, Memory>
-    ensures { IfOk result (λ text. IsListing (names_of session.now) (G.standing graph.now) text.items) }
+    ensures { IfOk result (λ text. IsListing (names_of session.now) graph.now.standing text.items) }
 {
     let mut text = Vec::new(alloc);
     push_triggers(alloc, &mut text, session, graph)?;

@@ -6,7 +6,7 @@ ghost use Rattle.ematch_cli.specs.Printed.{symbol_text, HasTreeSize, IsTermText,
 ghost use Rattle.ematch_cli.specs.Writing.{Puts};
 
 use itoa::Buffer;
-use smt_syntax::Session;
+use smt_commands::Session;
 use smt_text::is_simple;
 use std::alloc::AllocError;
 use term_table::ClassGraph;
@@ -14,10 +14,17 @@ use term_table::ClassGraph;
 /// The most symbols of a term that is written out.
 const MOST_SYMBOLS: u32 = 256;
 
-/// The name by which a symbol is written.
+/// The name by which a symbol is written: those of true and false, which have the numbers 0 and 1, and of each declared
+/// function.
 fn name_of(session: &Session, symbol: u32) -> &[u8]
     ensures { result.now ≡ names_of session.now symbol }
 {
+    if symbol == 0 {
+        return b"true";
+    }
+    if symbol == 1 {
+        return b"false";
+    }
     match session.name(symbol) {
         Some(name) => name,
         None => b"",
@@ -97,7 +104,7 @@ fn push_term<G: ClassGraph>(
 }
 
 /// Writes a term as it is listed.
-fn push_printed<G: ClassGraph>(
+pub(crate) fn push_printed<G: ClassGraph>(
     text: &mut Vec<u8>,
     session: &Session,
     graph: &G,

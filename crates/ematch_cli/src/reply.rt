@@ -1,102 +1,198 @@
 //! What answers a command.
-ghost use Rattle.std.specs.Prelude.{◌≡◌, ◌≤◌, length, IfOk, OnOk};
-ghost use Rattle.term_table.specs.declared.op.Op.TheVariants.{Push, Pop};
-ghost use Rattle.term_table.specs.Standing.{levels_of};
-ghost use Rattle.smt_syntax.specs.Elaborate.{AreValid};
-ghost use Rattle.smt_syntax.specs.Shapes.{HasShape};
-ghost use Rattle.smt_syntax.specs.Levels.{MovesLevels};
-ghost use Rattle.ematch_cli.specs.Names.{names_of};
-ghost use Rattle.ematch_cli.specs.Run.{repeated, Acts, NeedsTooMuch, Replies, IsRefused, run_state};
+ghost use Rattle.std.specs.Prelude.{◌≡◌, ◌≤◌, ◌↔◌, IsTrue, IfOk, IfErr, OnOk};
+ghost use Rattle.em_outside.specs.Limits.{AreLawful};
+ghost use Rattle.assertion_stack.specs.Assertions.{no_assertions, pushed, popped};
+ghost use Rattle.assertion_stack.specs.AssertShape.{AssertsFormula};
+ghost use Rattle.smt_commands.specs.declared.command.Command.TheVariants.{Exit};
+ghost use Rattle.ematch_cli.specs.Run.{repeated, Does};
+ghost use Rattle.ematch_cli.specs.Response.{IsResponse};
+ghost use Rattle.ematch_cli.specs.RunState.{RunState, run_state};
+ghost use Rattle.ematch_cli.specs.Reply.{IsReply, IsUnanswered, FindsNoRoomFor, IsWithoutRoom, IsUnread};
 
-use crate::entry::assert_shape;
+use crate::error_line::{refusal_line, room_line};
 use crate::listing::listing;
-use crate::stop::Stop;
-use plain_graph::PlainGraph;
-use smt_syntax::{Command, Refusal, Session};
+use crate::response::{info_text, success, unsupported};
+use crate::unanswered::Unanswered;
+use assertion_stack::AssertionStack;
+use em_outside::Limits;
+use formula_shape::Shape;
+use formula_table::EnterFault;
+use smt_commands::{Command, Session};
+use smt_names::Stop;
 use smt_text::Tree;
-use std::alloc::Global;
-use term_table::{Memory, Op};
+use std::alloc::{AllocError, Global};
+use term_table::Memory;
+
+/// What answers a command.
+#[derive(Debug, Drop)]
+pub(crate) struct Reply {
+    pub(crate) text: Vec<u8>,
+    /// Nothing after the command is read.
+    pub(crate) exits: bool,
+}
 
 /// Opens levels.
-fn push_levels(graph: &mut PlainGraph, count: u32) -> Result<(), Memory>
-    ensures { OnOk result (graph.new ≡ repeated count Push graph.old) }
+fn push_levels(stack: &mut AssertionStack, count: u32) -> Result<(), Memory>
+    ensures { OnOk result (stack.new ≡ repeated count pushed stack.old) }
 {
     for _i in 0..count {
-        match graph.apply(Op::Push) {
-            Ok(()) => {}
-            Err(_) => return Err(Memory),
-        }
+        stack.push()?;
     }
     Ok(())
 }
 
+/// Closes the innermost level, if one is open.
+fn pop_level(stack: &mut AssertionStack)
+    ensures { stack.new ≡ popped stack.old }
+{
+    if stack.depth() > 0 {
+        stack.pop();
+    }
+}
+
 /// Closes levels.
-fn pop_levels(graph: &mut PlainGraph, count: u32)
-    requires { count ≤ levels_of graph.old.standing }
-    ensures { graph.new ≡ repeated count Pop graph.old }
+fn pop_levels(stack: &mut AssertionStack, count: u32)
+    ensures { stack.new ≡ repeated count popped stack.old }
 {
     for _i in 0..count {
-        match graph.apply(Op::Pop) {
-            Ok(()) => {}
-            Err(_) => unreachable!(),
+        pop_level(stack);
+    }
+}
+
+/// Forgets all assertions.
+fn forget(alloc: Global, limits: &Limits, stack: &mut AssertionStack) -> Result<(), Memory>
+    requires { AreLawful limits.now }
+    ensures { OnOk result (stack.new ≡ no_assertions limits.now.terms limits.now.nodes) }
+{
+    *stack = AssertionStack::new(alloc, limits)?;
+    Ok(())
+}
+
+/// Asserts a formula, or gives the line that says that there is no room for it.
+fn assert_shape(
+    alloc: Global,
+    stack: &mut AssertionStack,
+    tree: &Tree,
+    shape: &Shape,
+) -> Result<(), Unanswered>
+    ensures ok { OnOk result (AssertsFormula shape.now stack.old stack.new) }
+    ensures refused { IfErr result (FindsNoRoomFor shape.now stack.old tree.now) }
+{
+    match stack.assert(shape) {
+        Ok(()) => Ok(()),
+        Err(EnterFault::Memory) => Err(Unanswered::Memory),
+        Err(fault) => {
+            let line = room_line(alloc, tree, fault)?;
+            Err(Unanswered::Refused { line })
         }
     }
 }
 
-/// Does what a command says to the graph, and gives the text that answers it.
-fn act(
+/// Does what a command says to the standing assertions.
+fn perform(
     alloc: Global,
-    session: &Session,
-    graph: &mut PlainGraph,
-    command: Command,
-) -> Result<Vec<u8>, Stop>
-    requires shape { HasShape command }
-    requires valid { AreValid command }
-    requires levels { MovesLevels (levels_of graph.old.standing) command (length session.now.levels) }
-    ensures ok { IfOk result (λ text. Acts (names_of session.now) graph.old command graph.new text.items) }
-    ensures refused { result ≡ Err Stop.Refused → NeedsTooMuch graph.old command }
+    limits: &Limits,
+    stack: &mut AssertionStack,
+    tree: &Tree,
+    command: &Command,
+) -> Result<(), Unanswered>
+    requires { AreLawful limits.now }
+    ensures ok { OnOk result (Does limits.now command.now stack.old stack.new) }
+    ensures refused { IfErr result (IsWithoutRoom command.now stack.old tree.now) }
 {
     match command {
-        Command::Silent => Ok(Vec::new(alloc)),
-        Command::Assert { shape } => match assert_shape(alloc, graph, &shape) {
-            Ok(()) => Ok(Vec::new(alloc)),
-            Err(stop) => Err(stop),
-        },
+        Command::Assert { shape } => assert_shape(alloc, stack, tree, shape),
         Command::Push { count } => {
-            push_levels(graph, count)?;
-            Ok(Vec::new(alloc))
+            push_levels(stack, *count)?;
+            Ok(())
         }
         Command::Pop { count } => {
-            pop_levels(graph, count);
-            Ok(Vec::new(alloc))
+            pop_levels(stack, *count);
+            Ok(())
         }
-        Command::CheckSat => {
-            let text = listing(alloc, session, graph)?;
-            Ok(text)
+        Command::Reset | Command::ResetAssertions => {
+            forget(alloc, limits, stack)?;
+            Ok(())
         }
+        Command::Silent
+        | Command::Unsupported
+        | Command::CheckSat
+        | Command::GetInfo { .. }
+        | Command::Exit => Ok(()),
     }
 }
 
-/// Reads a command, does what it says, and gives the text that answers it.
-pub(crate) fn reply(
+/// The text that answers a command that was done, where `prints` says whether success was printed before it.
+fn respond(
     alloc: Global,
-    session: &mut Session,
-    graph: &mut PlainGraph,
-    tree: &Tree,
-) -> Result<Vec<u8>, Stop>
-    requires { levels_of graph.old.standing ≡ length session.old.levels }
-    ensures ok { IfOk result (λ text. Replies (run_state session.old graph.old) tree.now (run_state session.new graph.new) text.items) }
-    ensures levels { OnOk result (levels_of graph.new.standing ≡ length session.new.levels) }
-    ensures refused { result ≡ Err Stop.Refused → IsRefused (run_state session.old graph.old) tree.now }
+    session: &Session,
+    stack: &AssertionStack,
+    command: &Command,
+    prints: bool,
+) -> Result<Vec<u8>, Memory>
+    ensures { IfOk result (λ text. (before : RunState) → before.session.prints_success ≡ prints → IsResponse command.now before (run_state session.now stack.now) text.items) }
 {
-    match session.command(tree) {
-        Ok(command) => match act(alloc, session, graph, command) {
-            Ok(text) => Ok(text),
-            Err(stop) => Err(stop),
+    match command {
+        Command::Unsupported => Ok(Vec::from_slice(alloc, unsupported())?),
+        Command::CheckSat => listing(alloc, session, stack.graph()),
+        Command::GetInfo { info } => Ok(info_text(alloc, *info, session.levels())?),
+        Command::Reset => Ok(Vec::from_slice(alloc, success(prints))?),
+        Command::Silent
+        | Command::Assert { .. }
+        | Command::Push { .. }
+        | Command::Pop { .. }
+        | Command::ResetAssertions
+        | Command::Exit => Ok(Vec::from_slice(alloc, success(session.prints_success()))?),
+    }
+}
+
+/// Whether nothing after the command is read.
+fn is_exit(command: &Command) -> bool
+    ensures { IsTrue result ↔ (command.now ≡ Exit) }
+{
+    match command {
+        Command::Exit => true,
+        _ => false,
+    }
+}
+
+/// Why a command is not done that is refused where it is read.
+fn unread(alloc: Global, stop: &Stop) -> Unanswered
+    ensures { IsUnread stop.now result }
+{
+    match stop {
+        Stop::Memory => Unanswered::Memory,
+        Stop::Refused(fault) => match refusal_line(alloc, fault) {
+            Ok(line) => Unanswered::Refused { line },
+            Err(AllocError) => Unanswered::Memory,
         },
-        Err(fault) => match fault.refusal {
-            Refusal::NotBuilt => Err(Stop::Refused),
-            Refusal::Memory => Err(Stop::Memory),
+    }
+}
+
+/// Reads a command, does what it says, and gives what answers it.
+pub(crate) fn answer_command(
+    alloc: Global,
+    limits: &Limits,
+    session: &mut Session,
+    stack: &mut AssertionStack,
+    tree: &Tree,
+) -> Result<Reply, Unanswered>
+    requires { AreLawful limits.now }
+    ensures ok { IfOk result (λ reply. IsReply limits.now (run_state session.old stack.old) tree.now (run_state session.new stack.new) reply) }
+    ensures refused { IfErr result (IsUnanswered (run_state session.old stack.old) tree.now) }
+{
+    let prints = session.prints_success();
+    match session.command(tree) {
+        Err(stop) => Err(unread(alloc, &stop)),
+        Ok(command) => match perform(alloc, limits, stack, tree, &command) {
+            Err(unanswered) => Err(unanswered),
+            Ok(()) => {
+                let text = respond(alloc, session, stack, &command, prints)?;
+                Ok(Reply {
+                    text,
+                    exits: is_exit(&command),
+                })
+            }
         },
     }
 }

@@ -1,5 +1,5 @@
 //! The top call.
-ghost use Rattle.std.specs.Prelude.{◌≡◌, ◌↔◌, IsTrue};
+ghost use Rattle.std.specs.Prelude.{◌≡◌, ◌↔◌, ◌⊎◌, IsTrue, IfOk};
 ghost use Rattle.em_outside.specs.Causes.{Rose};
 ghost use Rattle.em_outside.specs.Limits.{AreLawful};
 ghost use Rattle.ematch_cli.specs.Headline.{Answers, Reports};
@@ -7,16 +7,19 @@ ghost use Rattle.ematch_cli.specs.Words.{AreWords};
 
 use crate::script::answer_script;
 use crate::status::{Status, text_of};
+use command_words::{Job, WordsFault, read_words};
 use em_outside::{Limits, Sink, Source, write_all};
 use std::alloc::Global;
+use term_table::Memory;
 
-/// The words are `matches` alone.
-fn are_words(words: &[String]) -> bool
-    ensures { IsTrue result ↔ AreWords words.now }
+/// Whether the words ask for matches without workers.
+fn are_words(alloc: Global, words: &[String]) -> Result<bool, Memory>
+    ensures { IfOk result (λ asked. IsTrue asked ↔ AreWords words.now) }
 {
-    match words {
-        [word] => word.as_str() == "matches",
-        _ => false,
+    match read_words(alloc, words) {
+        Ok(asked) => Ok(asked.job == Job::Matches && asked.workers == 0),
+        Err(WordsFault::Refused) => Ok(false),
+        Err(WordsFault::Memory) => Err(Memory),
     }
 }
 
@@ -33,9 +36,10 @@ pub fn run_alone<I: Source, O: Sink, E: Sink>(
 ) -> Status
     requires { AreLawful limits.now }
 
-    // The words are refused exactly where they are not of the form, and then nothing is read or written.
-    ensures refused { (result ≡ Status.WordsRefused) ↔ (AreWords words.now → ⊥) }
-    ensures untouched { result ≡ Status.WordsRefused → (input.new ≡ input.old) × (out.new ≡ out.old) }
+    // The words are refused exactly where they do not ask for this, but for memory, and then nothing is read or written.
+    ensures refused { result ≡ Status.WordsRefused → AreWords words.now → ⊥ }
+    ensures others { (AreWords words.now → ⊥) → (result ≡ Status.WordsRefused) ⊎ (result ≡ Status.NoMemory) }
+    ensures untouched { (AreWords words.now → ⊥) → (input.new ≡ input.old) × (out.new ≡ out.old) }
 
     // What stands on the output is the script's answer, as far as the status says, and an error has its own status.
     ensures answers { AreWords words.now
@@ -48,10 +52,10 @@ pub fn run_alone<I: Source, O: Sink, E: Sink>(
     // The status is told on `err`, and a fault of `err` changes nothing else.
     ensures reports { Reports (E.written err.old) (E.written err.new) (E.fault_count err.old) (E.fault_count err.new) result }
 {
-    let status = if are_words(words) {
-        answer_script(alloc, limits, input, out)
-    } else {
-        Status::WordsRefused
+    let status = match are_words(alloc, words) {
+        Ok(true) => answer_script(alloc, limits, input, out),
+        Ok(false) => Status::WordsRefused,
+        Err(Memory) => Status::NoMemory,
     };
     report(err, status);
     status

@@ -1,0 +1,46 @@
+-- What a call leaves that answers a command.
+use Rattle.std.specs.Prelude.{◌≡◌, ◌≢◌, ◌↔◌, IsTrue, List, ℕ}
+use Rattle.em_outside.specs.declared.limits.Limits.{Limits}
+use Rattle.smt_text.specs.Word.{Word}
+use Rattle.smt_commands.specs.declared.command.Command.{Command}
+use Rattle.smt_commands.specs.declared.command.Command.TheVariants.{Assert, Exit}
+use Rattle.formula_shape.specs.Draft.{Formula}
+use Rattle.formula_table.specs.declared.enter_fault.EnterFault.{EnterFault}
+use Rattle.formula_table.specs.declared.enter_fault.EnterFault.TheVariants as enter
+use Rattle.assertion_stack.specs.Assertions.{Assertions}
+use Rattle.assertion_stack.specs.AssertShape.{StopsAssert}
+use Rattle.smt_names.specs.declared.stop.Stop.{Stop}
+use Rattle.smt_names.specs.declared.stop.Stop.TheVariants as stop
+use Rattle.ematch_cli.specs.ErrorLine.{refusal_line, room_line}
+use Rattle.ematch_cli.specs.Run.{Replies, IsRefused}
+use Rattle.ematch_cli.specs.RunState.{RunState}
+use Rattle.ematch_cli.specs.declared.reply.Reply.{Reply}
+use Rattle.ematch_cli.specs.declared.unanswered.Unanswered.{Unanswered}
+use Rattle.ematch_cli.specs.declared.unanswered.Unanswered.TheVariants.{Refused, Memory}
+
+-- the words were answered by the reply, which ends the script exactly where they are those of `exit`
+pub record IsReply (limits : Limits) (before : RunState) (words : List Word) (after : RunState) (reply : Reply) : Type 0 where
+  pub command : Command
+  pub replies : Replies limits before words command after reply.text.items
+  pub exits : IsTrue reply.exits ↔ (command ≡ Exit)
+
+-- the words are refused with the line, or memory was, which is free
+abbrev pub IsUnanswered : RunState → List Word → Unanswered → Type 0
+IsUnanswered before words (Refused line) = IsRefused before words line.items
+IsUnanswered before words Memory = Unit {0}
+
+-- the line says that there is no room for the formula, or memory was refused
+abbrev pub FindsNoRoomFor : Formula → Assertions → List Word → Unanswered → Type 0
+FindsNoRoomFor formula before words (Refused line) = (fault : EnterFault) × (after : Assertions) × StopsAssert formula before after fault × (fault ≢ enter.Memory) × (line.items ≡ room_line words fault)
+FindsNoRoomFor formula before words Memory = Unit {0}
+
+-- so does the command, where it asserts a formula
+abbrev pub IsWithoutRoom : Command → Assertions → List Word → Unanswered → Type 0
+IsWithoutRoom (Assert formula) before words unanswered = FindsNoRoomFor formula before words unanswered
+IsWithoutRoom command before words unanswered = unanswered ≡ Memory
+
+-- the line of a refusal, or memory was refused
+abbrev pub IsUnread : Stop → Unanswered → Type 0
+IsUnread stop.Memory unanswered = unanswered ≡ Memory
+IsUnread (stop.Refused fault) (Refused line) = line.items ≡ refusal_line fault
+IsUnread (stop.Refused fault) Memory = Unit {0}

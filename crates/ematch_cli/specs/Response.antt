@@ -1,0 +1,41 @@
+-- What is answered to a command that is done.
+use Rattle.std.specs.Prelude.{◌≡◌, ℕ, Bool, true, false, List, [], ◌++◌, length, codes}
+use Rattle.std.specs.Fmt.{decimal}
+use Rattle.smt_commands.specs.declared.command.Command.{Command}
+use Rattle.smt_commands.specs.declared.command.Command.TheVariants as command
+use Rattle.smt_commands.specs.declared.info.Info.{Info}
+use Rattle.smt_commands.specs.declared.info.Info.TheVariants as info
+use Rattle.ematch_cli.specs.Listing.{line, IsListing}
+use Rattle.ematch_cli.specs.Names.{names_of}
+use Rattle.ematch_cli.specs.RunState.{RunState}
+
+-- the line `success`, where it is printed
+abbrev pub success : Bool → List ℕ
+success true = line (codes "success")
+success false = []
+
+abbrev pub unsupported : List ℕ
+unsupported = line (codes "unsupported")
+
+-- an information, where so many levels are open; no `check-sat` of matches answers `unknown`, so that no reason for it is known
+abbrev pub info_text : Info → ℕ → List ℕ
+info_text info.Name levels = line (codes "(:name \"ematch\")")
+info_text info.Version levels = line (codes "(:version \"1.0\")")
+info_text info.Authors levels = line (codes "(:authors \"ematch\")")
+info_text info.ErrorBehavior levels = line (codes "(:error-behavior immediate-exit)")
+info_text info.Levels levels = line (codes "(:assertion-stack-levels " ++ decimal levels ++ codes ")")
+info_text info.ReasonUnknown levels = unsupported
+info_text info.Other levels = unsupported
+
+-- `success` is printed as the option stands after the command, but at `reset` as it stood before
+abbrev pub IsResponse : Command → RunState → RunState → List ℕ → Type 0
+IsResponse command.Unsupported before after text = text ≡ unsupported
+IsResponse command.CheckSat before after text = IsListing (names_of after.session) after.assertions.graph.standing text
+IsResponse (command.GetInfo info) before after text = text ≡ info_text info (length after.session.levels)
+IsResponse command.Reset before after text = text ≡ success before.session.prints_success
+IsResponse command.Silent before after text = text ≡ success after.session.prints_success
+IsResponse (command.Assert shape) before after text = text ≡ success after.session.prints_success
+IsResponse (command.Push count) before after text = text ≡ success after.session.prints_success
+IsResponse (command.Pop count) before after text = text ≡ success after.session.prints_success
+IsResponse command.ResetAssertions before after text = text ≡ success after.session.prints_success
+IsResponse command.Exit before after text = text ≡ success after.session.prints_success

@@ -1,0 +1,46 @@
+//! What is answered to a command that is done.
+ghost use Rattle.std.specs.Prelude.{◌≡◌, IfOk};
+ghost use Rattle.ematch_cli.specs.Response.{success, unsupported, info_text};
+
+use crate::printed::push_number;
+use smt_commands::Info;
+use std::alloc::{AllocError, Global};
+
+/// The line that is written where a command succeeds, or nothing where none is.
+pub(crate) fn success(prints: bool) -> &'static [u8]
+    ensures { result.now ≡ success prints }
+{
+    if prints { b"success\n" } else { b"" }
+}
+
+/// The line of a command that is not supported.
+pub(crate) fn unsupported() -> &'static [u8]
+    ensures { result.now ≡ unsupported }
+{
+    b"unsupported\n"
+}
+
+/// The line that says how many levels are open.
+fn levels_text(alloc: Global, levels: u32) -> Result<Vec<u8>, AllocError>
+    ensures { IfOk result (λ text. text.items ≡ info_text Info.Levels levels) }
+{
+    let mut text = Vec::new(alloc);
+    text.extend_from_slice(b"(:assertion-stack-levels ")?;
+    push_number(&mut text, u64::from(levels))?;
+    text.extend_from_slice(b")\n")?;
+    Ok(text)
+}
+
+/// An information, where so many levels are open.
+pub(crate) fn info_text(alloc: Global, info: Info, levels: u32) -> Result<Vec<u8>, AllocError>
+    ensures { IfOk result (λ text. text.items ≡ info_text info levels) }
+{
+    match info {
+        Info::Name => Vec::from_slice(alloc, b"(:name \"ematch\")\n"),
+        Info::Version => Vec::from_slice(alloc, b"(:version \"1.0\")\n"),
+        Info::Authors => Vec::from_slice(alloc, b"(:authors \"ematch\")\n"),
+        Info::ErrorBehavior => Vec::from_slice(alloc, b"(:error-behavior immediate-exit)\n"),
+        Info::Levels => levels_text(alloc, levels),
+        Info::ReasonUnknown | Info::Other => Vec::from_slice(alloc, unsupported()),
+    }
+}
