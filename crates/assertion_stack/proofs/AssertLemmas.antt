@@ -12,7 +12,7 @@ use Rattle.assertion_stack.specs.GraphTerms.{with_terms}
 use Rattle.assertion_stack.specs.GraphTermsLaws.{terms-with_terms}
 use Rattle.assertion_stack.specs.Held.{held}
 use Rattle.assertion_stack.specs.InLevel.{GrowsGraph, HoldsMore, KeepsLevels}
-use Rattle.assertion_stack.specs.StackInside.{IsStackOf, assertions_with, saved_of}
+use Rattle.assertion_stack.specs.StackInside.{IsStackOf, assertions_with}
 use Rattle.assertion_stack.proofs.Growth.{grows_both, grows_terms, terms_longer, NodesStand-more}
 use Rattle.assertion_stack.proofs.StackLemmas.{grows_entered, saved_same, stack_grown, stack_keeps}
 

@@ -1,10 +1,10 @@
 -- A row that is added to a graph as a term.
-use Rattle.std.proofs.Common.{◌≡◌, ℕ, ◌+◌, ◌≤◌, List, [], ◌∷◌, ◌++◌, length, Some, refl, sym, ap, subst, ◌∙◌, arith}
+use Rattle.std.proofs.Common.{◌≡◌, ℕ, ◌+◌, ◌≤◌, List, [], ◌∷◌, ◌++◌, length, Some, sym, ap, subst, ◌∙◌, arith}
 use Rattle.std.specs.Prelude.{slice_get}
 use Rattle.std.proofs.lemmas.List.{length-append}
 use Rattle.term_table.specs.declared.term_row.TermRow.{TermRow}
 use Rattle.term_table.specs.declared.op.Op.TheVariants.{Add}
-use Rattle.term_table.specs.Terms.{term_row, HasRow, IsAbsent}
+use Rattle.term_table.specs.Terms.{term_row, IsAbsent}
 use Rattle.term_table.specs.TermEntry.{AddGrows, new_row}
 use Rattle.term_table.specs.LawfulLaws.{terms_of-push}
 use Rattle.term_table.specs.ListLaws.{slice_get-push}

@@ -6,7 +6,6 @@ use Rattle.std.proofs.lemmas.List.Sums.{sum_by-append}
 use Rattle.std.proofs.lemmas.List.Elements.{All-nil, All-cons, All-head, All-tail, All-append, All-weaker}
 use Rattle.term_table.specs.declared.done.Done.{Done}
 use Rattle.term_table.specs.declared.term_row.TermRow.{TermRow}
-use Rattle.term_table.specs.declared.trigger.Trigger.{Trigger}
 use Rattle.term_table.specs.declared.op.Op.{Op}
 use Rattle.term_table.specs.declared.op.Op.TheVariants.{Add, Merge, Differ, Live, Push, Pop}
 use Rattle.term_table.specs.LawfulLaws.{then_op, terms_of-push}

@@ -1,9 +1,6 @@
 pub mod Growth
-pub mod OnceLemmas
 pub mod WorkLemmas
 pub mod OperationLemmas
 pub mod EnteredTerms
 pub mod StackLemmas
 pub mod AssertLemmas
-pub mod OneLemmas
-pub mod TestLemmas

@@ -1,5 +1,5 @@
 -- What a graph that gained terms keeps, and that gains add up.
-use Rattle.std.proofs.Common.{◌≡◌, List, [], ◌∷◌, ◌++◌, map, refl, sym, ap, ◌∙◌, append-nil, append_assoc}
+use Rattle.std.proofs.Common.{◌≡◌, List, [], ◌∷◌, ◌++◌, refl, sym, ap, ◌∙◌, append-nil, append_assoc}
 use Rattle.term_table.specs.declared.term_row.TermRow.{TermRow}
 use Rattle.term_table.specs.LawfulLaws.{terms_of-push}
 use Rattle.term_table.specs.Standing.{terms_of}

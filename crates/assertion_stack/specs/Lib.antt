@@ -8,3 +8,5 @@ pub mod InLevel
 pub mod Stands
 pub mod WorkList
 pub mod StackInside
+pub mod AssertsLaws
+pub mod OutcomeLaws

@@ -6,8 +6,9 @@ ghost use Rattle.formula_table.specs.declared.enter_fault.EnterFault.TheVariants
 ghost use Rattle.formula_table.specs.Formulas.{Formulas};
 ghost use Rattle.assertion_stack.specs.Held.{Held};
 ghost use Rattle.assertion_stack.specs.Asserts.{Asserts};
-ghost use Rattle.assertion_stack.specs.Assertions.{Assertions, pushed, popped};
+ghost use Rattle.assertion_stack.specs.Assertions.{Assertions, no_assertions, pushed, popped};
 ghost use Rattle.assertion_stack.specs.AssertShape.{AssertsFormula, StopsAssert};
+ghost use Rattle.assertion_stack.specs.OutcomeLaws.{AreTables};
 ghost use Rattle.assertion_stack.specs.Stands.{AreAssertions};
 ghost use Rattle.assertion_stack.specs.InLevel.{KeepsLevels, StandAlike};
 
@@ -22,9 +23,19 @@ pub fn pop_law()
     ensures back { (before after : Assertions) → KeepsLevels (pushed before) after → StandAlike before (popped after) }
 {}
 
-/// A formula is asserted in one way, and then not refused, and it is refused in one way, each but for want of memory.
+/// The terms and the formulas are tables in what a stack holds, and they are at the start, after a level was opened or ended,
+/// and after a formula was asserted.
+pub fn tables_law()
+    ensures start { (terms nodes : ℕ) → AreTables (no_assertions terms nodes) }
+    ensures opened { (now : Assertions) → AreTables now → AreTables (pushed now) }
+    ensures ended { (now : Assertions) → AreTables now → AreTables (popped now) }
+    ensures asserted { (formula : Formula) (before after : Assertions) → IsFormula formula → AreTables before → AssertsFormula formula before after → AreTables after }
+    ensures held { (now : Assertions) → AreAssertions now → AreTables now }
+{}
+
+/// Over tables a formula is asserted in one way, and then not refused, and it is refused in one way, each but for want of memory.
 pub fn one_answer_law()
-    ensures once { (formula : Formula) (before one other : Assertions) → IsFormula formula → AreAssertions before → AssertsFormula formula before one → AssertsFormula formula before other → one ≡ other }
-    ensures not_both { (formula : Formula) (before one other : Assertions) (fault : Fault) → IsFormula formula → AreAssertions before → (fault ≢ Memory) → AssertsFormula formula before one → StopsAssert formula before other fault → ⊥ }
-    ensures alike { (formula : Formula) (before one other : Assertions) (fault also : Fault) → IsFormula formula → AreAssertions before → (fault ≢ Memory) → (also ≢ Memory) → StopsAssert formula before one fault → StopsAssert formula before other also → (fault ≡ also) × (one ≡ other) }
+    ensures once { (formula : Formula) (before one other : Assertions) → IsFormula formula → AreTables before → AssertsFormula formula before one → AssertsFormula formula before other → one ≡ other }
+    ensures not_both { (formula : Formula) (before one other : Assertions) (fault : Fault) → IsFormula formula → AreTables before → (fault ≢ Memory) → AssertsFormula formula before one → StopsAssert formula before other fault → ⊥ }
+    ensures alike { (formula : Formula) (before one other : Assertions) (fault also : Fault) → IsFormula formula → AreTables before → (fault ≢ Memory) → (also ≢ Memory) → StopsAssert formula before one fault → StopsAssert formula before other also → (fault ≡ also) × (one ≡ other) }
 {}

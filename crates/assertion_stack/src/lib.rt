@@ -9,6 +9,3 @@ pub mod laws;
 mod level;
 
 pub use assertion_stack::AssertionStack;
-
-#[cfg(test)]
-mod tests;

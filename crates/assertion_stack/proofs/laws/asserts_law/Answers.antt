@@ -1,4 +1,4 @@
-use Rattle.assertion_stack.proofs.OnceLemmas.{asserts_once}
+use Rattle.assertion_stack.specs.AssertsLaws.{asserts_once}
 use Rattle.assertion_stack.proofs.laws.asserts_law.Goals as goal
 
 pub returns : goal.returns

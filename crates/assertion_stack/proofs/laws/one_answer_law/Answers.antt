@@ -1,11 +1,11 @@
-use Rattle.assertion_stack.proofs.OneLemmas.{assert_once, assert_not_stopped, stops_alike}
+use Rattle.assertion_stack.specs.OutcomeLaws.{asserts_formula_once, asserted_not_stopped, stopped_once}
 use Rattle.assertion_stack.proofs.laws.one_answer_law.Goals as goal
 
 pub returns-clause-once : goal.returns-clause-once
-returns-clause-once c = λ formula before one other is are. assert_once formula is before are one other
+returns-clause-once c = asserts_formula_once
 
 pub returns-clause-not_both : goal.returns-clause-not_both
-returns-clause-not_both c = λ formula before one other fault is are. assert_not_stopped formula is before are one other fault
+returns-clause-not_both c = asserted_not_stopped
 
 pub returns-clause-alike : goal.returns-clause-alike
-returns-clause-alike c = λ formula before one other fault also is are. stops_alike formula is before are one other fault also
+returns-clause-alike c = stopped_once

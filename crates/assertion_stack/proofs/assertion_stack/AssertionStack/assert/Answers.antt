@@ -1,9 +1,8 @@
-use Rattle.std.proofs.Common.{[], append-nil, sym, subst}
+use Rattle.std.proofs.Common.{subst}
 use Rattle.assertion_stack.specs.Assertions.{Assertions}
 use Rattle.assertion_stack.specs.AssertShape.{AssertsFormula}
 use Rattle.assertion_stack.specs.InLevel.{KeepsLevels}
 use Rattle.assertion_stack.specs.StackInside.{assertions_with}
-use Rattle.term_table.specs.Standing.{terms_of}
 use Rattle.assertion_stack.proofs.AssertLemmas.{entered_root, entered_over, asserted_stack, asserted_keeps, asserted_saved}
 use Rattle.assertion_stack.proofs.StackLemmas.{refused_stack, refused_keeps}
 use Rattle.assertion_stack.proofs.assertion_stack.AssertionStack.assert.Goals as goal

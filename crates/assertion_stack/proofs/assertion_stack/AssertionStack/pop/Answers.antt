@@ -1,4 +1,4 @@
-use Rattle.std.proofs.Common.{ap, sym, ◌∙◌}
+use Rattle.std.proofs.Common.{ap, ◌∙◌}
 use Rattle.assertion_stack.specs.Assertions.{popped}
 use Rattle.assertion_stack.proofs.StackLemmas.{last_named, view_popped, stack_popped}
 use Rattle.assertion_stack.proofs.assertion_stack.AssertionStack.pop.Goals as goal

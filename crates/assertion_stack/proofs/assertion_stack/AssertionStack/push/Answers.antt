@@ -1,7 +1,6 @@
-use Rattle.std.proofs.Common.{◌<◌, ◌+◌, ◌^◌, List, [], ◌∷◌, ◌++◌, length, ap, sym, ◌∙◌, arith}
+use Rattle.std.proofs.Common.{◌<◌, ◌+◌, ◌^◌, List, [], ◌∷◌, ◌++◌, length, ap, ◌∙◌, arith}
 use Rattle.assertion_stack.specs.declared.level.Level.{Level}
-use Rattle.assertion_stack.specs.Assertions.{pushed}
-use Rattle.assertion_stack.proofs.StackLemmas.{view_pushed, stack_pushed}
+use Rattle.assertion_stack.proofs.StackLemmas.{stack_pushed}
 use Rattle.assertion_stack.proofs.assertion_stack.AssertionStack.push.Goals as goal
 
 pub invariant_of-self-2 : goal.invariant_of-self-2
