@@ -6,10 +6,9 @@ use Rattle.smt_text.specs.Word.{Word}
 use Rattle.smt_text.specs.Script.{Script, End, Fault, Command}
 use Rattle.formula_shape.specs.Draft.{Formula, IsFormula}
 use Rattle.formula_table.specs.declared.enter_fault.EnterFault.{EnterFault}
-use Rattle.formula_table.specs.declared.enter_fault.EnterFault.TheVariants as enter
 use Rattle.assertion_stack.specs.Assertions.{Assertions, no_assertions, pushed, popped}
-use Rattle.assertion_stack.specs.AssertShape.{AssertsFormula, StopsAssert}
-use Rattle.assertion_stack.specs.OutcomeLaws.{AreTables, tables_at_start, tables_pushed, tables_popped, tables_asserted, asserts_formula_once, full_terms_not_asserted, lacking_nodes_not_asserted, full_terms_not_lacking_nodes}
+use Rattle.assertion_stack.specs.AssertShape.{StopsAssert}
+use Rattle.assertion_stack.specs.OutcomeLaws.{AreTables, tables_at_start, tables_pushed, tables_popped, tables_asserted, asserts_formula_once, asserted_not_stopped, stopped_once}
 use Rattle.smt_names.specs.Names.{State, at_start}
 use Rattle.smt_names.specs.declared.syntax_fault.SyntaxFault.{SyntaxFault}
 use Rattle.smt_commands.specs.SessionLaws.{IsSound, KeepsSound}
@@ -88,23 +87,6 @@ module _ (limits : Limits) where
   does_tables (command.GetInfo info) before after tables is does = subst AreTables (sym does) tables
   does_tables command.Exit before after tables is does = subst AreTables (sym does) tables
 
--- a formula for which there is no room is not asserted
-no_room : (formula : Formula) (before one other : Assertions) (fault : EnterFault) → IsFormula formula → AreTables before → (fault ≢ enter.Memory) → AssertsFormula formula before one → StopsAssert formula before other fault → ⊥
-no_room formula before one other enter.TermsFull is tables room asserts stops = full_terms_not_asserted formula before one other is tables asserts stops
-no_room formula before one other enter.NodesFull is tables room asserts stops = lacking_nodes_not_asserted formula before one other is tables asserts stops
-no_room formula before one other enter.Memory is tables room asserts stops = room refl
-
--- and there is one reason
-room_once : (formula : Formula) (before one other : Assertions) (fault also : EnterFault) → IsFormula formula → AreTables before → (fault ≢ enter.Memory) → (also ≢ enter.Memory)
-    → StopsAssert formula before one fault → StopsAssert formula before other also → fault ≡ also
-room_once formula before one other enter.TermsFull enter.TermsFull is tables room rooms stops more = refl
-room_once formula before one other enter.NodesFull enter.NodesFull is tables room rooms stops more = refl
-room_once formula before one other enter.TermsFull enter.NodesFull is tables room rooms stops more = absurd (full_terms_not_lacking_nodes formula before one other is tables stops more)
-room_once formula before one other enter.NodesFull enter.TermsFull is tables room rooms stops more = absurd (full_terms_not_lacking_nodes formula before other one is tables more stops)
-room_once formula before one other enter.Memory also is tables room rooms stops more = absurd (room refl)
-room_once formula before one other enter.TermsFull enter.Memory is tables room rooms stops more = absurd (rooms refl)
-room_once formula before one other enter.NodesFull enter.Memory is tables room rooms stops more = absurd (rooms refl)
-
 module _ (limits : Limits) (law : KeepsSound) where
   -- what is asserted is a formula
   formula_of : (now : RunState) (words : List Word) (what : syntax.Command) (session : State) → IsRight now → elaborate now.session words ≡ Ok (answered what session) → (formula : Formula) → what ≡ command.Assert formula → IsFormula formula
@@ -128,7 +110,7 @@ module _ (limits : Limits) (law : KeepsSound) where
   refused_replies now words line c s a right (inr (fault, room, is)) replies =
       let same : answered c s.session ≡ answered (command.Assert room.formula) room.session = ok_once (elaborate now.session words) (answered c s.session) (answered (command.Assert room.formula) room.session) replies.elaborated room.elaborated in
       let what : c ≡ command.Assert room.formula = ap (λ (answer : commands.Answer). answer.command) same in
-      absurd (no_room room.formula now.assertions s.assertions room.after fault (formula_of now words (command.Assert room.formula) room.session right room.elaborated room.formula refl) right.tables room.is_room
+      absurd (asserted_not_stopped room.formula now.assertions s.assertions room.after fault (formula_of now words (command.Assert room.formula) room.session right room.elaborated room.formula refl) right.tables room.is_room
       (subst (λ (x : syntax.Command). Does limits x now.assertions s.assertions) what replies.does) room.stops)
 
   -- a command is refused in one way
@@ -140,8 +122,8 @@ module _ (limits : Limits) (law : KeepsSound) where
       let same : answered (command.Assert room.formula) room.session ≡ answered (command.Assert room'.formula) room'.session = ok_once (elaborate now.session words) (answered (command.Assert room.formula) room.session) (answered (command.Assert room'.formula) room'.session) room.elaborated room'.elaborated in
       let what : command.Assert room.formula ≡ command.Assert room'.formula = ap (λ (answer : commands.Answer). answer.command) same in
       let formulas : room.formula ≡ room'.formula = cc in
-      is ∙ ap (room_line words) (room_once room.formula now.assertions room.after room'.after fault fault' (formula_of now words (command.Assert room.formula) room.session right room.elaborated room.formula refl) right.tables room.is_room room'.is_room room.stops
-      (subst (λ (f : Formula). StopsAssert f now.assertions room'.after fault') (sym formulas) room'.stops)) ∙ sym is'
+      is ∙ ap (room_line words) (stopped_once room.formula now.assertions room.after room'.after fault fault' (formula_of now words (command.Assert room.formula) room.session right room.elaborated room.formula refl) right.tables room.is_room room'.is_room room.stops
+      (subst (λ (f : Formula). StopsAssert f now.assertions room'.after fault') (sym formulas) room'.stops)).0 ∙ sym is'
 
   -- what a command leaves is right
   pub right_after : (now : RunState) (words : List Word) (c : syntax.Command) (s : RunState) (a : List ℕ) → IsRight now → Replies limits now words c s a → IsRight s

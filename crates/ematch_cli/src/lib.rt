@@ -2,6 +2,7 @@
 #![tactic(auto)]
 
 mod error_line;
+mod law_stub;
 mod laws;
 mod listing;
 mod printed;

@@ -1,12 +1,12 @@
 ghost use Rattle.em_outside.specs.Limits.{AreLawful};
 
-mod entering;
-mod graphs;
-
 use super::*;
 use em_outside::{Limits, MemSink, MemSource, Sink, Source};
+use matching_graph::MatchingGraph;
+use smt_commands::Session;
 use std::alloc::AllocError;
 use std::test::Fail;
+use term_table::ClassGraph;
 
 const DECLARED: &str =
     "(declare-sort U 0) (declare-fun f (U) U) (declare-fun g (U) U) (declare-fun k (U U) U) (declare-fun p (U) Bool) (declare-const a U) (declare-const b U) (declare-const c U)\n";
@@ -72,7 +72,7 @@ fn run_within(
     })
 }
 
-/// Scripts behind the declarations, and what they are answered.
+/// Scripts behind the declarations, and what they are answered by.
 const ANSWERS: &[(&str, &str)] = &[
     ("", ""),
     (
@@ -130,6 +130,21 @@ const ANSWERS: &[(&str, &str)] = &[
         "(declare-const |x y| U) ; the same \" | as\n(assert (= (f |x y|) (f |a|)))(assert (|forall| ((|x| U)) (! (= x |x|) :pattern ((f x)))))(check-sat)",
         "forall 1 trigger 1: 2\n  |x y|\n  a\nsettled\n",
     ),
+    // a term of more than 256 symbols is listed by its number
+    (
+        "(assert (let ((t1 (k a a))) (let ((t2 (k t1 t1))) (let ((t3 (k t2 t2))) (let ((t4 (k t3 t3))) (let ((t5 (k t4 t4))) (let ((t6 (k t5 t5))) (let ((t7 (k t6 t6))) (let ((t8 (k t7 t7))) (= (g t8) (g t8)))))))))))(assert (forall ((x U)) (! (= x x) :pattern ((g x)))))(check-sat)",
+        "forall 1 trigger 1: 1\n  #10\nsettled\n",
+    ),
+    // a disjunction is not split
+    (
+        "(assert (or (= a b) (= a c)))(assert (= (f b) (f b)))(assert (forall ((x U)) (! (= x x) :pattern ((f x)))))(check-sat)",
+        "forall 1 trigger 1: 1\n  b\nsettled\n",
+    ),
+    // a definition is unfolded, and formulas match as terms do
+    (
+        "(define-fun h ((x U)) U (f (g x)))(assert (p (h a)))(assert (forall ((x U)) (! (p (h x)) :pattern ((p (h x))))))(check-sat)",
+        "forall 1 trigger 1: 1\n  a\nsettled\n",
+    ),
     // a trigger goes with its level
     (
         "(push 1)(assert (forall ((x U)) (! (= x x) :pattern ((f x)))))(pop 1)(assert (= (f a) (f a)))(check-sat)",
@@ -168,6 +183,30 @@ fn the_end_inside_a_command_is_an_error_where_it_is_known(rt: HostRuntime) -> Re
     Ok(())
 }
 
+/// Scripts with a fault of their bytes under narrow limits, and what they are answered by.
+const FAULTS: &[(&str, &str)] = &[
+    (
+        "(check-sat)\n(assert\n 01)",
+        "settled\n(error \"line 3 column 3: byte not allowed here\")\n",
+    ),
+    (
+        "(check-sat)\n \"",
+        "settled\n(error \"line 2 column 2: a command must begin with (\")\n",
+    ),
+    (
+        " (|a) ",
+        "(error \"line 1 column 2: the command is not closed\")\n",
+    ),
+    (
+        "((()))",
+        "(error \"line 1 column 3: too many open parentheses\")\n",
+    ),
+    (
+        "(check-sat)\n(check-sat)\n {",
+        "settled\nsettled\n(error \"line 3 column 1: the script is too long\")\n",
+    ),
+];
+
 #[test]
 fn a_fault_of_the_bytes_has_its_line(rt: HostRuntime) -> Result<(), Fail> {
     let limits = Limits {
@@ -175,36 +214,148 @@ fn a_fault_of_the_bytes_has_its_line(rt: HostRuntime) -> Result<(), Fail> {
         depth: 2,
         ..Limits::standard()
     };
-    let scripts = [
-        (
-            "(check-sat)\n(assert\n 01)",
-            "settled\n(error \"line 3 column 3: byte not allowed here\")\n",
-        ),
-        (
-            "(check-sat)\n \"",
-            "settled\n(error \"line 2 column 2: a command must begin with (\")\n",
-        ),
-        (
-            " (|a) ",
-            "(error \"line 1 column 2: the command is not closed\")\n",
-        ),
-        (
-            "((()))",
-            "(error \"line 1 column 3: too many open parentheses\")\n",
-        ),
-        (
-            "(check-sat)\n(check-sat)\n {",
-            "settled\nsettled\n(error \"line 3 column 1: the script is too long\")\n",
-        ),
-        ("(set-logic UF) (", "(error \"not built yet\")\n"),
-    ];
-    for (script, answer) in scripts {
+    for (script, answer) in FAULTS {
         for piece in [1, 4096] {
             let left = run_within(&rt, &limits, &[script], piece, &[], &[])?;
             assert_eq!(rt; left.out.as_slice(), answer.as_bytes(), "{script}");
             assert_eq!(rt; left.code, 1, "{script}");
         }
     }
+    Ok(())
+}
+
+/// Scripts without an error, and their responses.
+const RESPONSES: &[(&str, &str)] = &[
+    (
+        "(set-option :print-success true)(set-logic UF)(push 1)(get-info :assertion-stack-levels)(pop 1)(exit)(check-sat",
+        "success\nsuccess\nsuccess\n(:assertion-stack-levels 1)\nsuccess\nsuccess\n",
+    ),
+    (
+        "(get-info :name)(get-info :version)(get-info :authors)(get-info :error-behavior)(get-info :reason-unknown)(get-info :other)",
+        "(:name \"ematch\")\n(:version \"1.0\")\n(:authors \"ematch\")\n(:error-behavior immediate-exit)\nunsupported\nunsupported\n",
+    ),
+    // success is printed by the new value, and at reset by the old one
+    (
+        "(set-option :print-success true)(set-option :print-success false)(set-option :print-success true)(push)(reset)(get-info :assertion-stack-levels)(set-logic UF)",
+        "success\nsuccess\nsuccess\nsuccess\n(:assertion-stack-levels 0)\n",
+    ),
+    // reset-assertions leaves the option as it is, and nothing declared
+    (
+        "(set-option :print-success true)(declare-sort U 0)(push 2)(reset-assertions)(declare-sort U 0)(get-info :assertion-stack-levels)",
+        "success\nsuccess\nsuccess\nsuccess\nsuccess\n(:assertion-stack-levels 0)\n",
+    ),
+    (
+        "(set-option :auto_config false)(set-option :k)(set-info :k (a b))(echo \"x\")(get-model)(check-sat-assuming (a))",
+        "unsupported\nunsupported\nunsupported\nunsupported\nunsupported\n",
+    ),
+    // names of functions and of sorts are two spaces of names, and a name after a pop is free
+    (
+        "(declare-sort U 0)(declare-fun U (U U) U)(push 1)(declare-const a U)(pop 1)(declare-const a U)(check-sat)",
+        "settled\n",
+    ),
+];
+
+#[test]
+fn commands_have_their_responses(rt: HostRuntime) -> Result<(), Fail> {
+    for (script, answer) in RESPONSES {
+        for piece in [1, 4096] {
+            let left = run(&rt, &[script], piece, &[], &[])?;
+            assert_eq!(rt; left.out.as_slice(), answer.as_bytes(), "{script}");
+            assert_eq!(rt; left.code, 0, "{script}");
+        }
+    }
+    Ok(())
+}
+
+/// Scripts of one command that is refused, and what stands in the line of the error behind `(error "line 1 `.
+const REFUSALS: &[(&str, &str)] = &[
+    ("(pop 1)", "column 6: pop below the first level"),
+    ("(pop)", "column 2: pop below the first level"),
+    ("(push 65537)", "column 7: too many levels"),
+    ("(declare-const a V)", "column 18: unknown name V"),
+    (
+        "(declare-fun |a\"b| () |\"|)",
+        "column 23: unknown name \"\"",
+    ),
+    ("(declare-sort Bool 0)", "column 15: Bool is already declared"),
+    ("(declare-fun and () Bool)", "column 14: and is already declared"),
+    ("(declare-sort U 1)", "column 17: not supported here"),
+    ("(declare-sort let 0)", "column 15: not a well-formed command"),
+    ("(declare-sort @a 0)", "column 15: not a well-formed command"),
+    ("(define-sort A () Bool)", "column 2: not supported here"),
+    ("(assert (not))", "column 10: wrong number of arguments of not"),
+    ("(assert true false)", "column 14: not a well-formed command"),
+    ("(assert)", "column 2: not a well-formed command"),
+    ("(assert #b0)", "column 9: not supported here"),
+    ("(assert (let ((x true) (x true)) x))", "column 25: not a well-formed command"),
+    ("()", "column 1: not a well-formed command"),
+    ("(nothing)", "column 2: not a well-formed command"),
+    ("(set-option :print-success 1)", "column 28: not a well-formed command"),
+];
+
+#[test]
+fn refusals_have_their_lines(rt: HostRuntime) -> Result<(), Fail> {
+    for (script, said) in REFUSALS {
+        let left = run(&rt, &[script], 4096, &[], &[])?;
+        let line = format!(in rt.alloc(); "(error \"line 1 {said}\")\n")?;
+        assert_eq!(rt; left.out.as_slice(), line.as_bytes(), "{script}");
+        assert_eq!(rt; left.code, 1, "{script}");
+    }
+    Ok(())
+}
+
+/// Triggers and terms over `f` and `p` that are refused in the second line.
+const TERMS: &[(&str, &str)] = &[
+    (
+        "(assert (forall ((x U) (y U)) (! (= x y) :pattern ((f x)))))",
+        "column 51: variable y is not in the trigger",
+    ),
+    (
+        "(assert (forall ((x U)) (! (p x) :pattern (x))))",
+        "column 44: a pattern must not be a variable",
+    ),
+    (
+        "(assert (forall ((x U)) (! (p x) :pattern ((not (p x))))))",
+        "column 44: a pattern must not hold connectives",
+    ),
+    ("(assert (f a))", "column 9: wrong sort"),
+    ("(assert (p true))", "column 12: wrong sort"),
+    ("(assert (p b))", "column 12: unknown name b"),
+    ("(assert (forall ((x U)) (p x)))", "column 10: not supported here"),
+];
+
+#[test]
+fn terms_are_refused_where_they_are_wrong(rt: HostRuntime) -> Result<(), Fail> {
+    let declared =
+        "(declare-sort U 0)(declare-fun f (U) U)(declare-fun p (U) Bool)(declare-const a U)\n";
+    for (script, said) in TERMS {
+        let left = run(&rt, &[declared, script], 4096, &[], &[])?;
+        let line = format!(in rt.alloc(); "(error \"line 2 {said}\")\n")?;
+        assert_eq!(rt; left.out.as_slice(), line.as_bytes(), "{script}");
+        assert_eq!(rt; left.code, 1, "{script}");
+    }
+    Ok(())
+}
+
+#[test]
+fn a_formula_has_room_for_as_many_terms_as_may_stand(rt: HostRuntime) -> Result<(), Fail> {
+    let script = "(declare-sort U 0)(declare-fun k (U U) U)(declare-const a U)(declare-const b U)\n(assert (= (k a b) (k a b)))";
+    let few = Limits {
+        terms: 4,
+        ..Limits::standard()
+    };
+    let full = run_within(&rt, &few, &[script], 4096, &[], &[])?;
+    assert_eq!(rt;
+        full.out.as_slice(),
+        b"(error \"line 2 column 1: too many terms\")\n".as_slice()
+    );
+    assert_eq!(rt; full.code, 1);
+    let enough = Limits { terms: 5, ..few };
+    let done = run_within(&rt, &enough, &[script], 4096, &[], &[])?;
+    assert_eq!(rt; (done.code, done.out.len()), (0, 0));
+    let no_node = Limits { nodes: 0, ..enough };
+    let left = run_within(&rt, &no_node, &[script], 4096, &[], &[])?;
+    assert_eq!(rt; left.code, 1);
     Ok(())
 }
 
@@ -237,47 +388,55 @@ fn each_read_and_write_that_fails_ends_the_run_with_a_front(rt: HostRuntime) -> 
     Ok(())
 }
 
+/// Words that are refused.
+const WORDS: &[&[&str]] = &[
+    &["matches", "x"],
+    &["--workers", "65", "matches"],
+    &["--rounds", "03", "solve"],
+    &["drill"],
+    &[],
+    &["--workers", "1", "matches"],
+    &["solve"],
+    &["make", "2"],
+];
+
 #[test]
-fn other_words_are_refused_and_terms_have_a_limit(rt: HostRuntime) -> Result<(), Fail> {
+fn other_words_are_refused(rt: HostRuntime) -> Result<(), Fail> {
     let alloc = rt.alloc();
-    let mut words = Vec::new(alloc);
-    words.push(String::from_str(alloc, "solve")?)?;
-    let limits = Limits {
-        terms: 4,
-        nodes: 4,
-        bytes: 1000,
-        depth: 10,
-        levels: 10,
-    };
-    let script =
-        b"(declare-sort U 0)(declare-const a U)(declare-fun f (U) U)(assert (= a (f a)))(check-sat)(assert (= a (f (f a))))(check-sat)".as_slice();
-    let mut input = MemSource::new(script.to_vec(alloc)?, 100, Vec::new(alloc));
+    for given in WORDS {
+        let mut words = Vec::new(alloc);
+        for word in *given {
+            words.push(String::from_str(alloc, word)?)?;
+        }
+        let script = b"(check-sat)".as_slice();
+        let mut input = MemSource::new(script.to_vec(alloc)?, 100, Vec::new(alloc));
+        let mut out = MemSink::new(alloc, Vec::new(alloc));
+        let mut err = MemSink::new(alloc, Vec::new(alloc));
+        let limits = Limits::standard();
+        let status = run_alone(
+            alloc,
+            words.as_slice(),
+            &limits,
+            &mut input,
+            &mut out,
+            &mut err,
+        );
+        assert_eq!(rt; status.code(), 2);
+        assert_eq!(rt; out.bytes().len(), 0);
+        assert_eq!(rt; err.bytes(), b"ematch: words refused\n".as_slice());
+    }
+    Ok(())
+}
+
+#[test]
+fn a_term_is_written_by_itself(rt: HostRuntime) -> Result<(), Fail> {
+    let alloc = rt.alloc();
+    let session = Session::new(alloc, &Limits::standard());
+    let graph = MatchingGraph::new(alloc, 2)?;
     let mut out = MemSink::new(alloc, Vec::new(alloc));
-    let mut err = MemSink::new(alloc, Vec::new(alloc));
-    let refused = run_alone(
-        alloc,
-        words.as_slice(),
-        &limits,
-        &mut input,
-        &mut out,
-        &mut err,
-    );
-    assert_eq!(rt; refused.code(), 2);
-    assert_eq!(rt; err.bytes(), b"ematch: words refused\n".as_slice());
-    words.clear();
-    words.push(String::from_str(alloc, "matches")?)?;
-    let full = run_alone(
-        alloc,
-        words.as_slice(),
-        &limits,
-        &mut input,
-        &mut out,
-        &mut err,
-    );
-    assert_eq!(rt; full.code(), 1);
-    assert_eq!(rt;
-        out.bytes(),
-        b"settled\n(error \"not built yet\")\n".as_slice()
-    );
+    let _terms = graph.len();
+    let written = write_term(alloc, &session, &graph, 1, &mut out);
+    assert!(rt; written.is_ok());
+    assert_eq!(rt; out.bytes(), b"false".as_slice());
     Ok(())
 }
