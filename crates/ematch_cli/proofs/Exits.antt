@@ -163,7 +163,7 @@ module _ (limits : Limits) (in0 in1 out0 out1 : Option (List ℕ)) (now : RunSta
   pub finished : Exhausts in0 reached.taken → rest [] ≡ End → Answers limits in0 in1 out0 out1 status.Done
   finished all end =
       let wrote : Wrote out0 out1 (IsOutput limits reached.taken) Finished = whole_of limits in0 in1 out0 out1 out1 now rest reached true reached.taken (silence Finished)
-          (answered_taken limits in0 in1 out0 out1 now rest reached true (silence Finished) (subst (λ (s : Script). IsAnswer limits true s now (silence Finished)) (sym end) (end_answer limits now))) (Appended-none out1) in
+      (answered_taken limits in0 in1 out0 out1 now rest reached true (silence Finished) (subst (λ (s : Script). IsAnswer limits true s now (silence Finished)) (sym end) (end_answer limits now))) (Appended-none out1) in
       record {
         taken = reached.taken;
         given = reached.given;

@@ -57,18 +57,7 @@ module _ (limits : Limits) where
   answers_behind known [] rest state later text answer (is, none) answered =
       subst (λ (t : List ℕ). IsAnswer limits known rest state (behind t answer)) (sym none) (subst (λ (s : RunState). IsAnswer limits known rest s answer) is answered)
   answers_behind known (words ∷ commands) rest state later text answer (command, mid, first, others, goes, one, all, is) answered =
-      inr (
-        inr (
-          command,
-          mid,
-          first,
-          behind others answer,
-          goes,
-          one,
-          answers_behind known commands rest mid later others answer all answered,
-          ap (λ (t : List ℕ). behind t answer) is ∙ sym (behind-behind first others answer),
-        ),
-      )
+      inr (inr (command, mid, first, behind others answer, goes, one, answers_behind known commands rest mid later others answer all answered, ap (λ (t : List ℕ). behind t answer) is ∙ sym (behind-behind first others answer)))
 
   module _ (law : KeepsSound) where
     -- what the commands leave is right

@@ -2,8 +2,8 @@
 use Rattle.std.specs.Prelude.{◌≡◌, ◌≤◌, ℕ, List, length, take, Option}
 use Rattle.em_outside.specs.Bytes.{Appended}
 use Rattle.em_outside.specs.Causes.{Rose}
-use Rattle.ematch_cli.specs.declared.write_term.TermStop.{TermStop}
-use Rattle.ematch_cli.specs.declared.write_term.TermStop.TheVariants.{Stopped, Memory}
+use Rattle.ematch_cli.specs.declared.term_writer.TermStop.{TermStop}
+use Rattle.ematch_cli.specs.declared.term_writer.TermStop.TheVariants.{Stopped, Memory}
 
 -- a text of this kind was written whole
 abbrev pub WritesText : (List ℕ → Type 0) → Option (List ℕ) → Option (List ℕ) → Type 0

@@ -68,12 +68,7 @@ fn push_quoted(text: &mut Vec<u8>, name: &[u8]) -> Result<(), AllocError>
 }
 
 /// A text with a name in it.
-fn named(
-    alloc: Global,
-    before: &[u8],
-    name: &[u8],
-    behind: &[u8],
-) -> Result<Vec<u8>, AllocError>
+fn named(alloc: Global, before: &[u8], name: &[u8], behind: &[u8]) -> Result<Vec<u8>, AllocError>
     ensures { IfOk result (λ text. text.items ≡ before.now ++ quoted name.now ++ behind.now) }
 {
     let mut text = Vec::from_slice(alloc, before)?;

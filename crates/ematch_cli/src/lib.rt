@@ -11,12 +11,12 @@ mod response;
 mod run;
 mod script;
 mod status;
+mod term_writer;
 #[cfg(test)]
 mod tests;
 mod unanswered;
-mod write_term;
 
 pub use laws::one_answer;
 pub use run::{report, run_alone};
 pub use status::Status;
-pub use write_term::{TermStop, write_term};
+pub use term_writer::{TermStop, write_term};

@@ -277,20 +277,44 @@ const REFUSALS: &[(&str, &str)] = &[
         "(declare-fun |a\"b| () |\"|)",
         "column 23: unknown name \"\"",
     ),
-    ("(declare-sort Bool 0)", "column 15: Bool is already declared"),
-    ("(declare-fun and () Bool)", "column 14: and is already declared"),
+    (
+        "(declare-sort Bool 0)",
+        "column 15: Bool is already declared",
+    ),
+    (
+        "(declare-fun and () Bool)",
+        "column 14: and is already declared",
+    ),
     ("(declare-sort U 1)", "column 17: not supported here"),
-    ("(declare-sort let 0)", "column 15: not a well-formed command"),
-    ("(declare-sort @a 0)", "column 15: not a well-formed command"),
+    (
+        "(declare-sort let 0)",
+        "column 15: not a well-formed command",
+    ),
+    (
+        "(declare-sort @a 0)",
+        "column 15: not a well-formed command",
+    ),
     ("(define-sort A () Bool)", "column 2: not supported here"),
-    ("(assert (not))", "column 10: wrong number of arguments of not"),
-    ("(assert true false)", "column 14: not a well-formed command"),
+    (
+        "(assert (not))",
+        "column 10: wrong number of arguments of not",
+    ),
+    (
+        "(assert true false)",
+        "column 14: not a well-formed command",
+    ),
     ("(assert)", "column 2: not a well-formed command"),
     ("(assert #b0)", "column 9: not supported here"),
-    ("(assert (let ((x true) (x true)) x))", "column 25: not a well-formed command"),
+    (
+        "(assert (let ((x true) (x true)) x))",
+        "column 25: not a well-formed command",
+    ),
     ("()", "column 1: not a well-formed command"),
     ("(nothing)", "column 2: not a well-formed command"),
-    ("(set-option :print-success 1)", "column 28: not a well-formed command"),
+    (
+        "(set-option :print-success 1)",
+        "column 28: not a well-formed command",
+    ),
 ];
 
 #[test]
@@ -321,7 +345,10 @@ const TERMS: &[(&str, &str)] = &[
     ("(assert (f a))", "column 9: wrong sort"),
     ("(assert (p true))", "column 12: wrong sort"),
     ("(assert (p b))", "column 12: unknown name b"),
-    ("(assert (forall ((x U)) (p x)))", "column 10: not supported here"),
+    (
+        "(assert (forall ((x U)) (p x)))",
+        "column 10: not supported here",
+    ),
 ];
 
 #[test]
@@ -339,7 +366,8 @@ fn terms_are_refused_where_they_are_wrong(rt: HostRuntime) -> Result<(), Fail> {
 
 #[test]
 fn a_formula_has_room_for_as_many_terms_as_may_stand(rt: HostRuntime) -> Result<(), Fail> {
-    let script = "(declare-sort U 0)(declare-fun k (U U) U)(declare-const a U)(declare-const b U)\n(assert (= (k a b) (k a b)))";
+    let script =
+        "(declare-sort U 0)(declare-fun k (U U) U)(declare-const a U)(declare-const b U)\n(assert (= (k a b) (k a b)))";
     let few = Limits {
         terms: 4,
         ..Limits::standard()
