@@ -4,7 +4,7 @@ use super::*;
 use em_outside::{Limits, MemSink, MemSource, Sink, Source};
 use matching_graph::MatchingGraph;
 use smt_commands::Session;
-use std::alloc::AllocError;
+use std::alloc::{AllocError, Global};
 use std::test::Fail;
 use term_table::ClassGraph;
 
@@ -328,7 +328,11 @@ fn refusals_have_their_lines(rt: HostRuntime) -> Result<(), Fail> {
     Ok(())
 }
 
-/// Triggers and terms over `f` and `p` that are refused in the second line.
+/// What scripts of terms declare.
+const TERMS_DECLARED: &str =
+    "(declare-sort U 0)(declare-fun f (U) U)(declare-fun p (U) Bool)(declare-const a U)\n";
+
+/// Triggers and terms that are refused in the second line.
 const TERMS: &[(&str, &str)] = &[
     (
         "(assert (forall ((x U) (y U)) (! (= x y) :pattern ((f x)))))",
@@ -353,15 +357,77 @@ const TERMS: &[(&str, &str)] = &[
 
 #[test]
 fn terms_are_refused_where_they_are_wrong(rt: HostRuntime) -> Result<(), Fail> {
-    let declared =
-        "(declare-sort U 0)(declare-fun f (U) U)(declare-fun p (U) Bool)(declare-const a U)\n";
     for (script, said) in TERMS {
-        let left = run(&rt, &[declared, script], 4096, &[], &[])?;
-        let line = format!(in rt.alloc(); "(error \"line 2 {said}\")\n")?;
-        assert_eq!(rt; left.out.as_slice(), line.as_bytes(), "{script}");
-        assert_eq!(rt; left.code, 1, "{script}");
+        is_refused(&rt, [script, "", ""], said)?;
     }
     Ok(())
+}
+
+/// A text so many times.
+fn repeated(alloc: Global, text: &str, count: u32) -> Result<String, AllocError> {
+    let mut all = String::new(alloc);
+    for _ in 0..count {
+        all.push_str(text)?;
+    }
+    Ok(all)
+}
+
+/// Bindings of so many names.
+fn bindings(alloc: Global, count: u32) -> Result<String, AllocError> {
+    let mut all = String::new(alloc);
+    for i in 0..count {
+        let binding = format!(in alloc; "(x{i} U)")?;
+        all.push_str(binding.as_str())?;
+    }
+    Ok(all)
+}
+
+/// The script, which is in one line behind the declarations, is refused so.
+fn is_refused(rt: &HostRuntime, script: [&str; 3], said: &str) -> Result<(), Fail> {
+    let [before, middle, behind] = script;
+    let left = run(
+        rt,
+        &[TERMS_DECLARED, before, middle, behind],
+        4096,
+        &[],
+        &[],
+    )?;
+    let line = format!(in rt.alloc(); "(error \"line 2 {said}\")\n")?;
+    assert_eq!(rt; left.out.as_slice(), line.as_bytes(), "{said}");
+    assert_eq!(rt; left.code, 1, "{said}");
+    Ok(())
+}
+
+#[test]
+fn the_first_too_many_is_refused(rt: HostRuntime) -> Result<(), Fail> {
+    let alloc = rt.alloc();
+    let variables = bindings(alloc, 33)?;
+    is_refused(
+        &rt,
+        ["(assert (forall (", variables.as_str(), ") (p x0)))"],
+        "column 233: too many variables",
+    )?;
+    let sorts = repeated(alloc, "U ", 256)?;
+    is_refused(
+        &rt,
+        ["(declare-fun g (", sorts.as_str(), ") U)"],
+        "column 527: too many arguments",
+    )?;
+    let patterns = repeated(alloc, "(p x) ", 17)?;
+    let trigger = "(assert (forall ((x U)) (! (p x) :pattern (";
+    is_refused(
+        &rt,
+        [trigger, patterns.as_str(), "))))"],
+        "column 140: too many patterns",
+    )?;
+    let opened = repeated(alloc, "(f ", 256)?;
+    let closed = repeated(alloc, ")", 256)?;
+    let pattern = format!(in alloc; "{opened}x{closed}")?;
+    is_refused(
+        &rt,
+        [trigger, pattern.as_str(), "))))"],
+        "column 44: the pattern is too large",
+    )
 }
 
 #[test]
@@ -382,7 +448,11 @@ fn a_formula_has_room_for_as_many_terms_as_may_stand(rt: HostRuntime) -> Result<
     let done = run_within(&rt, &enough, &[script], 4096, &[], &[])?;
     assert_eq!(rt; (done.code, done.out.len()), (0, 0));
     let no_node = Limits { nodes: 0, ..enough };
-    let left = run_within(&rt, &no_node, &[script], 4096, &[], &[])?;
+    let left = run_within(&rt, &no_node, &["(assert true)"], 4096, &[], &[])?;
+    assert_eq!(rt;
+        left.out.as_slice(),
+        b"(error \"line 1 column 9: too many formula nodes\")\n".as_slice()
+    );
     assert_eq!(rt; left.code, 1);
     Ok(())
 }
