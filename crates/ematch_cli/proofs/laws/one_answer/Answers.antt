@@ -1,11 +1,11 @@
 use Rattle.std.proofs.Common.{true, false}
 use Rattle.smt_text.specs.Script.{script_of}
 use Rattle.ematch_cli.specs.Output.{opening}
-use Rattle.ematch_cli.proofs.OneAnswer.{answer_once}
+use Rattle.ematch_cli.proofs.OneAnswer.{answer_once, right_opening}
 use Rattle.ematch_cli.proofs.laws.one_answer.Goals as goal
 
 pub returns-clause-output : goal.returns-clause-output
-returns-clause-output c limits bytes a b one other = answer_once true (script_of limits bytes) (opening limits) a b one other
+returns-clause-output c limits bytes a b one other = answer_once limits c.session_law.ensures.keeps true (script_of limits bytes) (opening limits) a b (right_opening limits (c.session_law.ensures.starts limits)) one other
 
 pub returns-clause-so_far : goal.returns-clause-so_far
-returns-clause-so_far c limits bytes a b one other = answer_once false (script_of limits bytes) (opening limits) a b one other
+returns-clause-so_far c limits bytes a b one other = answer_once limits c.session_law.ensures.keeps false (script_of limits bytes) (opening limits) a b (right_opening limits (c.session_law.ensures.starts limits)) one other
