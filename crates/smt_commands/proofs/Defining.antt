@@ -27,4 +27,4 @@ pub defines : (state after : State) (head : Place) (name : List ℕ) (parameters
     → Answers result after (begun state (sorted_value head (inside_definition state parameters) sort given >>= λ (u : Value). defined state name parameters sort u))
 defines state after head name parameters sort given draft v sorts result is same answers = subst (λ (r : Result Answer SyntaxFault). Answers result after r)
     (sym (ap (λ (r : Result (Value × Draft) SyntaxFault). without_draft (then_from (λ (u : Value). defined state name parameters sort u) r)) is
-        ∙ ap (λ (s : List ℕ). answered Silent (with_definition name (definition s sort draft v) state)) (sym same))) answers
+    ∙ ap (λ (s : List ℕ). answered Silent (with_definition name (definition s sort draft v) state)) (sym same))) answers
