@@ -1,3 +1,8 @@
 pub mod Examples
 pub mod Steps
 pub mod Sorts
+pub mod Bindings
+pub mod Asserting
+pub mod Defining
+pub mod Sound
+pub mod SessionLaw

@@ -4,8 +4,10 @@
 mod command;
 mod declaring;
 mod info;
+pub mod laws;
 mod levels;
 mod named;
+mod parameters;
 mod parts;
 mod reading;
 mod session;
@@ -14,3 +16,6 @@ mod terms;
 pub use command::Command;
 pub use info::Info;
 pub use session::Session;
+
+#[cfg(test)]
+mod tests;
