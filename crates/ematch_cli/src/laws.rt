@@ -3,7 +3,7 @@ ghost use Rattle.std.specs.Prelude.{◌≡◌, ℕ, List};
 ghost use Rattle.em_outside.specs.declared.limits.Limits.{Limits};
 ghost use Rattle.ematch_cli.specs.Output.{Answer, IsOutput, IsOutputSoFar};
 
-use crate::law_stub::session_law;
+use smt_commands::laws::session_law;
 
 /// A script has one answer at most, and so have the bytes of a script so far.
 pub fn one_answer()

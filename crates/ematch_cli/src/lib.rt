@@ -2,7 +2,6 @@
 #![tactic(auto)]
 
 mod error_line;
-mod law_stub;
 mod laws;
 mod listing;
 mod printed;

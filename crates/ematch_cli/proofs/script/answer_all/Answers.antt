@@ -69,11 +69,11 @@ loop-tree-preserved g c =
     let given = (read.reads c.loop-tree.invariant.no_fault).answer in
     let reply = c.in-Ok.ensures.ok in
     record {
-      reached = 
-    next c.args.limits.now (g.I.Source.left c.args.input.now) (g.I.Source.left c.loop-tree.input) (g.I.Source.left c.next_tree.new.source) (g.O.Sink.written c.args.out.now) (g.O.Sink.written c.loop-tree.out) (g.O.Sink.written c.write_text.new.out)
-    (run_state c.loop-tree.session c.loop-tree.stack) c.loop-tree.reader c.next_tree.new.self c.loop-tree.invariant.reached c.in-Ok-Some.tree reply.command (run_state c.answer_command.new.session c.answer_command.new.stack) c.in-Ok.reply.text.items
-    (read.reads c.loop-tree.invariant.no_fault) (λ (is : reply.command ≡ Exit). c.if-reply.false (reply.exits.1 is)) reply.replies
-    (subst (λ (text : List ℕ). Appended (g.O.Sink.written c.loop-tree.out) (g.O.Sink.written c.write_text.new.out) text) c.as_slice.ensures.value c.if-not-write_text.ensures.whole);
+      reached =
+          next c.args.limits.now (g.I.Source.left c.args.input.now) (g.I.Source.left c.loop-tree.input) (g.I.Source.left c.next_tree.new.source) (g.O.Sink.written c.args.out.now) (g.O.Sink.written c.loop-tree.out) (g.O.Sink.written c.write_text.new.out)
+          (run_state c.loop-tree.session c.loop-tree.stack) c.loop-tree.reader c.next_tree.new.self c.loop-tree.invariant.reached c.in-Ok-Some.tree reply.command (run_state c.answer_command.new.session c.answer_command.new.stack) c.in-Ok.reply.text.items
+          (read.reads c.loop-tree.invariant.no_fault) (λ (is : reply.command ≡ Exit). c.if-reply.false (reply.exits.1 is)) reply.replies
+          (subst (λ (text : List ℕ). Appended (g.O.Sink.written c.loop-tree.out) (g.O.Sink.written c.write_text.new.out) text) c.as_slice.ensures.value c.if-not-write_text.ensures.whole);
       no_fault = ap (λ r. r.fault) given.moved;
       limits = ap (λ r. r.limits) given.moved ∙ c.loop-tree.invariant.limits;
       input_later = omega (arith, c.next_tree.ensures.later, c.loop-tree.invariant.input_later);
