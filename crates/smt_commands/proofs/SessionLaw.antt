@@ -176,9 +176,9 @@ module _ (makes_formulas : MakesFormulas) (makes_definitions : MakesDefinitions)
           let made_so = value head (inside_definition state parameters) (from 3 (meant t)) draft in
           behind_sorted sort made_so _ (sorted_by (first_place head (from 3 (meant t))) sort made_so) λ v later was _.
           let right = makes_definitions state head are.bindings draft draft parameters (behind_trees 3 t) state.limits.terms state.limits.nodes v later name sort (sorts_of parameters) is.declared are.given
-              (subst (λ (parts : Meant). value head (inside_definition state parameters) parts draft ≡ Ok (v, later)) (from_meant 3 t) was) (same_sorts parameters) in
+          (subst (λ (parts : Meant). value head (inside_definition state parameters) parts draft ≡ Ok (v, later)) (from_meant 3 t) was) (same_sorts parameters) in
           silence (record state { definitions = state.definitions ++ record { name = name; parameters = sorts_of parameters; sort = sort; rows = later.rows; nodes = later.nodes; value = v } ∷ [] }) later
-              (sound_with_definition state is (record { name = name; parameters = sorts_of parameters; sort = sort; rows = later.rows; nodes = later.nodes; value = v }) right)
+          (sound_with_definition state is (record { name = name; parameters = sorts_of parameters; sort = sort; rows = later.rows; nodes = later.nodes; value = v }) right)
 
   assert_right : (head : Place) (t : trees.Trees) → Answered (assert_truth state head (meant t) (draft_of state))
   assert_right head t =
@@ -187,7 +187,7 @@ module _ (makes_formulas : MakesFormulas) (makes_definitions : MakesDefinitions)
       let made_so = value head (outside state) (meant t) draft in
       behind_sorted 0 made_so _ (sorted_by (first_place head (meant t)) 0 made_so) λ v later was bool.
       answers is (λ formula same. let e : finished later (self v) ≡ formula = cc in
-          subst (λ (f : Formula). IsFormula f × IsTruth state.functions [] f.rows f.nodes f.foralls f.root) e (makes_formulas state head t state.limits.terms state.limits.nodes v later is.declared was bool))
+      subst (λ (f : Formula). IsFormula f × IsTruth state.functions [] f.rows f.nodes f.foralls f.root) e (makes_formulas state head t state.limits.terms state.limits.nodes v later is.declared was bool))
 
   headed_right : (head : Place) (t : trees.Trees) (name : Named) → Answered (headed state head (meant t) name (draft_of state))
   headed_right head t named.SetLogic = behind _ (logic_form head (meant t) (draft_of state)) λ _ later. silence state later is
