@@ -5,4 +5,6 @@ pub mod Bindings
 pub mod Asserting
 pub mod Defining
 pub mod Sound
+mod SessionLawLevels
+mod SessionLawForms
 pub mod SessionLaw
