@@ -1,5 +1,5 @@
 -- A value of a given sort, and the command that takes it.
-use Rattle.std.proofs.Common.{◌≡◌, ℕ, ◌==◌, Bool, true, false, drop, List, [], Result, Ok, Err, refl, sym, ap, subst, ◌∙◌, arith}
+use Rattle.std.proofs.Common.{◌≡◌, ℕ, ◌==◌, Bool, true, false, drop, List, Result, Ok, Err, refl, sym, ap, ◌∙◌, arith}
 use Rattle.std.proofs.lemmas.Grind.{common_steps}
 use Rattle.em_outside.specs.declared.limits.Limits.{Limits}
 use Rattle.smt_text.specs.Word.{Word}
@@ -8,21 +8,19 @@ use Rattle.smt_text.specs.declared.token.Place.{Place}
 use Rattle.formula_shape.specs.Draft.{Draft, Formula, IsFormula, empty_draft, finished}
 use Rattle.smt_names.specs.declared.value.Value.{Value}
 use Rattle.smt_names.specs.declared.bound.Bound.{Bound}
-use Rattle.smt_names.specs.declared.refusal.Refusal.{Refusal}
 use Rattle.smt_names.specs.declared.refusal.Refusal.TheVariants.{WrongSort}
 use Rattle.smt_names.specs.declared.syntax_fault.SyntaxFault.{SyntaxFault}
 use Rattle.smt_names.specs.Value.{sort_of, self}
-use Rattle.smt_names.specs.Making.{Making, made, then_from, want, ◌>>◌}
+use Rattle.smt_names.specs.Making.{made, then_from, want, ◌>>◌}
 use Rattle.smt_names.specs.Names.{State, Scope}
 use Rattle.smt_terms.specs.declared.frame.Inside.{Inside}
 use Rattle.smt_terms.specs.Machine.{scope_of}
 use Rattle.smt_terms.specs.Meant.{Meant, first_place}
-use Rattle.smt_terms.specs.Terms.{value, meant}
+use Rattle.smt_terms.specs.Terms.{value}
 use Rattle.smt_terms.specs.Cursor.{here}
 use Rattle.shape_laws.specs.Laws.{MakesFormulas}
-use Rattle.smt_commands.specs.declared.command.Command.{Command}
 use Rattle.smt_commands.specs.declared.command.Command.TheVariants.{Assert}
-use Rattle.smt_commands.specs.Commands.{Answer, begun, sorted_value, asserted, asserted_term, outside, without_draft}
+use Rattle.smt_commands.specs.Commands.{begun, sorted_value, asserted, asserted_term, outside, without_draft}
 use Rattle.smt_commands.specs.SessionLaws.{IsSound}
 use Rattle.smt_commands.proofs.Steps.{answered, draft_of}
 

@@ -3,7 +3,6 @@ pub mod Steps
 pub mod Sorts
 pub mod Bindings
 pub mod Asserting
-pub mod Defining
 pub mod Sound
 mod SessionLawLevels
 mod SessionLawForms

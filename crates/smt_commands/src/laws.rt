@@ -1,7 +1,7 @@
 //! Laws of the definitions of commands, on a function that does nothing.
 ghost use Rattle.em_outside.specs.declared.limits.Limits.{Limits};
-ghost use Rattle.smt_names.specs.Names.{at_start};
 ghost use Rattle.smt_commands.specs.SessionLaws.{IsSound, KeepsSound};
+ghost use Rattle.smt_names.specs.Names.{at_start};
 
 use shape_laws::laws::{definition_law, formula_law};
 

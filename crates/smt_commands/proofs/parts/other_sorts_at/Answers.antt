@@ -3,7 +3,7 @@ use Rattle.smt_terms.specs.Cursor.{word_at, here}
 use Rattle.smt_terms.specs.Meant.{other_sort}
 use Rattle.smt_terms.specs.Terms.{list_value}
 use Rattle.smt_commands.specs.Commands.{other_sorts}
-use Rattle.smt_commands.proofs.Sorts.{sorts_begin, sorts_next, sorts_refused, sorts_of_token, sorts_of_list, weighs_token, weighs_list}
+use Rattle.smt_commands.proofs.Sorts.{sorts_next, sorts_refused, sorts_of_token, sorts_of_list, weighs_token, weighs_list}
 use Rattle.smt_commands.proofs.parts.other_sorts_at.Goals as goal
 
 pub returns-in-Err : goal.returns-in-Err
