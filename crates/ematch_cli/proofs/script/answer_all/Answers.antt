@@ -1,4 +1,4 @@
-use Rattle.std.proofs.Common.{◌≡◌, List, ℕ, arith, sym, ◌∙◌, ap, subst}
+use Rattle.std.proofs.Common.{◌≡◌, ◌≢◌, List, ℕ, arith, sym, ◌∙◌, ap, subst}
 use Rattle.em_outside.specs.Bytes.{Appended}
 use Rattle.smt_text.specs.Reading.{Reading}
 use Rattle.smt_names.specs.Names.{State, at_start}
@@ -54,7 +54,7 @@ returns-in-Err-Refused-clause-answers g c =
     let read = rw c.in-Ok-Some.field-0-is at c.in-Ok-Some.ensures in
     refused_command c.args.limits.now (g.I.Source.left c.args.input.now) (g.I.Source.left c.loop-tree.input) (g.I.Source.left c.next_tree.new.source) (g.O.Sink.written c.args.out.now) (g.O.Sink.written c.loop-tree.out) (g.O.Sink.written c.refuse.new.out)
     (run_state c.loop-tree.session c.loop-tree.stack) c.loop-tree.reader c.next_tree.new.self c.loop-tree.invariant.reached c.in-Ok-Some.tree c.in-Err-Refused.line.items c.refuse.result
-    (read.reads c.loop-tree.invariant.no_fault) (rw c.in-Err-Refused.is at c.in-Err.ensures.refused)
+    (read.reads c.loop-tree.invariant.no_fault) (rw c.in-Err-Refused.is at c.in-Err-answer_command.ensures.refused)
     (subst (λ (line : List ℕ). WritesError line (g.O.Sink.written c.loop-tree.out) (g.O.Sink.written c.refuse.new.out) c.refuse.result) c.as_slice-in-Err-Refused.ensures.value c.refuse.ensures.writes)
 
 pub returns-in-Err-Memory-clause-answers : goal.returns-in-Err-Memory-clause-answers
@@ -68,11 +68,12 @@ loop-tree-preserved g c =
     let read = rw c.in-Ok-Some.field-0-is at c.in-Ok-Some.ensures in
     let given = (read.reads c.loop-tree.invariant.no_fault).answer in
     let reply = c.in-Ok.ensures.ok in
+    let goes : reply.command ≢ Exit = λ same. c.if-reply.false (reply.exits.1 same) in
     record {
       reached =
           next c.args.limits.now (g.I.Source.left c.args.input.now) (g.I.Source.left c.loop-tree.input) (g.I.Source.left c.next_tree.new.source) (g.O.Sink.written c.args.out.now) (g.O.Sink.written c.loop-tree.out) (g.O.Sink.written c.write_text.new.out)
           (run_state c.loop-tree.session c.loop-tree.stack) c.loop-tree.reader c.next_tree.new.self c.loop-tree.invariant.reached c.in-Ok-Some.tree reply.command (run_state c.answer_command.new.session c.answer_command.new.stack) c.in-Ok.reply.text.items
-          (read.reads c.loop-tree.invariant.no_fault) (λ (is : reply.command ≡ Exit). c.if-reply.false (reply.exits.1 is)) reply.replies
+          (read.reads c.loop-tree.invariant.no_fault) goes reply.replies
           (subst (λ (text : List ℕ). Appended (g.O.Sink.written c.loop-tree.out) (g.O.Sink.written c.write_text.new.out) text) c.as_slice.ensures.value c.if-not-write_text.ensures.whole);
       no_fault = ap (λ r. r.fault) given.moved;
       limits = ap (λ r. r.limits) given.moved ∙ c.loop-tree.invariant.limits;
@@ -89,11 +90,11 @@ returns-in-Ok-None-clause-answers g c =
 pub returns-in-Some-clause-answers : goal.returns-in-Some-clause-answers
 returns-in-Some-clause-answers g c =
     refused_bytes c.args.limits.now (g.I.Source.left c.args.input.now) (g.I.Source.left c.loop-tree.input) (g.I.Source.left c.next_tree.new.source) (g.O.Sink.written c.args.out.now) (g.O.Sink.written c.loop-tree.out) (g.O.Sink.written c.refuse_bytes.new.out)
-    (run_state c.loop-tree.session c.loop-tree.stack) c.loop-tree.reader c.next_tree.new.self c.loop-tree.invariant.reached c.in-Err-next_tree.fault c.in-Some.byte c.refuse_bytes.result
-    (sym c.in_bytes.ensures ∙ c.in-Some.is) (c.in-Err-next_tree.ensures.reads c.loop-tree.invariant.no_fault) c.refuse_bytes.ensures.writes
+    (run_state c.loop-tree.session c.loop-tree.stack) c.loop-tree.reader c.next_tree.new.self c.loop-tree.invariant.reached c.in-Err.fault c.in-Some.byte c.refuse_bytes.result
+    (sym c.in_bytes.ensures ∙ c.in-Some.is) (c.in-Err.ensures.reads c.loop-tree.invariant.no_fault) c.refuse_bytes.ensures.writes
 
 pub returns-in-None-clause-answers : goal.returns-in-None-clause-answers
 returns-in-None-clause-answers g c =
     subst (λ s. Answers c.args.limits.now (g.I.Source.left c.args.input.now) (g.I.Source.left c.next_tree.new.source) (g.O.Sink.written c.args.out.now) (g.O.Sink.written c.loop-tree.out) s) (sym c.outside.ensures.is)
     (outside c.args.limits.now (g.I.Source.left c.args.input.now) (g.I.Source.left c.loop-tree.input) (g.I.Source.left c.next_tree.new.source) (g.O.Sink.written c.args.out.now) (g.O.Sink.written c.loop-tree.out) (g.O.Sink.written c.loop-tree.out)
-    (run_state c.loop-tree.session c.loop-tree.stack) c.loop-tree.reader c.next_tree.new.self c.loop-tree.invariant.reached c.in-Err-next_tree.fault (sym c.in_bytes.ensures ∙ c.in-None.is) (c.in-Err-next_tree.ensures.reads c.loop-tree.invariant.no_fault))
+    (run_state c.loop-tree.session c.loop-tree.stack) c.loop-tree.reader c.next_tree.new.self c.loop-tree.invariant.reached c.in-Err.fault (sym c.in_bytes.ensures ∙ c.in-None.is) (c.in-Err.ensures.reads c.loop-tree.invariant.no_fault))
