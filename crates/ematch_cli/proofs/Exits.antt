@@ -4,7 +4,7 @@ use Rattle.std.specs.Prelude.{IfSome, Ok, Err}
 use Rattle.std.specs.Io.KnownBytes.{Consumes}
 use Rattle.std.proofs.lemmas.List.{append-nil}
 use Rattle.em_outside.specs.Bytes.{Appended, Exhausts}
-use Rattle.em_outside.specs.BytesLaws.{Appended-none, Appended-then, Consumes-told, Exhausts-then}
+use Rattle.em_outside.specs.BytesLaws.{Appended-none, Appended-then, Consumes-none, Consumes-told, Exhausts-then}
 use Rattle.em_outside.specs.declared.limits.Limits.{Limits}
 use Rattle.smt_text.specs.Word.{Word}
 use Rattle.smt_text.specs.Script.{Script, End, Fault, Command, IsOpen, script_of}
@@ -185,6 +185,16 @@ module _ (limits : Limits) (in0 in1 out0 out1 : Option (List ℕ)) (now : RunSta
     error_so_far = λ answer is failed calm. open_failed (sym (ends_only limits in0 in1 out0 out1 now rest reached false (silence Open) answer (open_only limits (rest []) now open') is) ∙ failed);
     error_at_end = λ answer is failed calm no_read. absurd (no_read refl);
   }
+
+-- nothing was read or written for want of memory
+pub nothing_read : (limits : Limits) (input out : Option (List ℕ)) → Answers limits input input out out status.NoMemory
+nothing_read limits input out = record {
+  taken = [];
+  given = Consumes-none input;
+  stands = inl ([], (λ answer is. (answer.bytes, refl)), Appended-none out);
+  error_so_far = λ answer is failed calm. absurd (calm.1 refl);
+  error_at_end = λ answer is failed calm no_read. absurd (calm.1 refl);
+}
 
 -- the fault of the bytes that a fault of the reader is
 back : (b : ByteFault) → in_bytes (text_fault b) ≡ Some b

@@ -23,6 +23,30 @@ fn are_words(alloc: Global, words: &[String]) -> Result<bool, Memory>
     }
 }
 
+/// Reads and answers the script, where the words ask for this.
+fn run_words<I: Source, O: Sink>(
+    alloc: Global,
+    words: &[String],
+    limits: &Limits,
+    input: &mut I,
+    out: &mut O,
+) -> Status
+    requires { AreLawful limits.now }
+    ensures refused { result ≡ Status.WordsRefused → AreWords words.now → ⊥ }
+    ensures others { (AreWords words.now → ⊥) → (result ≡ Status.WordsRefused) ⊎ (result ≡ Status.NoMemory) }
+    ensures untouched { (AreWords words.now → ⊥) → (input.new ≡ input.old) × (out.new ≡ out.old) }
+    ensures answers { AreWords words.now
+        → Answers limits.now (I.left input.old) (I.left input.new) (O.written out.old) (O.written out.new) result }
+    ensures read_fault { result ≡ Status.ReadFault → Rose (I.fault_count input.old) (I.fault_count input.new) }
+    ensures write_fault { result ≡ Status.WriteFault → Rose (O.fault_count out.old) (O.fault_count out.new) }
+{
+    match are_words(alloc, words) {
+        Ok(true) => answer_script(alloc, limits, input, out),
+        Ok(false) => Status::WordsRefused,
+        Err(Memory) => Status::NoMemory,
+    }
+}
+
 /// Reads the script on the input, writes its answer to the output, and says on `err` what went wrong outside.
 ///
 /// The words are those behind the program's name. It returns in every case, whatever the bytes, the faults and the memory.
@@ -52,11 +76,7 @@ pub fn run_alone<I: Source, O: Sink, E: Sink>(
     // The status is told on `err`, and a fault of `err` changes nothing else.
     ensures reports { Reports (E.written err.old) (E.written err.new) (E.fault_count err.old) (E.fault_count err.new) result }
 {
-    let status = match are_words(alloc, words) {
-        Ok(true) => answer_script(alloc, limits, input, out),
-        Ok(false) => Status::WordsRefused,
-        Err(Memory) => Status::NoMemory,
-    };
+    let status = run_words(alloc, words, limits, input, out);
     report(err, status);
     status
 }

@@ -3,7 +3,5 @@
 
 pub mod graph;
 mod matches;
-#[cfg(test)]
-mod tests;
 
 pub use graph::MatchingGraph;
