@@ -1,4 +1,4 @@
-use Rattle.std.proofs.Common.{◌≡◌, ◌≢◌, List, ℕ, arith, sym, ◌∙◌, ap, subst}
+use Rattle.std.proofs.Common.{◌≡◌, ◌≢◌, true, false, List, ℕ, arith, sym, ◌∙◌, ap, subst}
 use Rattle.em_outside.specs.Bytes.{Appended}
 use Rattle.smt_text.specs.Reading.{Reading}
 use Rattle.smt_names.specs.Names.{State, at_start}
@@ -54,7 +54,7 @@ returns-in-Err-Refused-clause-answers g c =
     let read = rw c.in-Ok-Some.field-0-is at c.in-Ok-Some.ensures in
     refused_command c.args.limits.now (g.I.Source.left c.args.input.now) (g.I.Source.left c.loop-tree.input) (g.I.Source.left c.next_tree.new.source) (g.O.Sink.written c.args.out.now) (g.O.Sink.written c.loop-tree.out) (g.O.Sink.written c.refuse.new.out)
     (run_state c.loop-tree.session c.loop-tree.stack) c.loop-tree.reader c.next_tree.new.self c.loop-tree.invariant.reached c.in-Ok-Some.tree c.in-Err-Refused.line.items c.refuse.result
-    (read.reads c.loop-tree.invariant.no_fault) (rw c.in-Err-Refused.is at c.in-Err-answer_command.ensures.refused)
+    (read.reads c.loop-tree.invariant.no_fault) c.in-Err-Refused.ensures.refused
     (subst (λ (line : List ℕ). WritesError line (g.O.Sink.written c.loop-tree.out) (g.O.Sink.written c.refuse.new.out) c.refuse.result) c.as_slice-in-Err-Refused.ensures.value c.refuse.ensures.writes)
 
 pub returns-in-Err-Memory-clause-answers : goal.returns-in-Err-Memory-clause-answers
@@ -68,7 +68,7 @@ loop-tree-preserved g c =
     let read = rw c.in-Ok-Some.field-0-is at c.in-Ok-Some.ensures in
     let given = (read.reads c.loop-tree.invariant.no_fault).answer in
     let reply = c.in-Ok.ensures.ok in
-    let goes : reply.command ≢ Exit = λ same. c.if-reply.false (reply.exits.1 same) in
+    let goes : reply.command ≢ Exit = λ same. let yes : c.in-Ok.reply.exits ≡ true = reply.exits.1 same in let no : c.in-Ok.reply.exits ≡ false = c.if-reply.false in absurd (cc) in
     record {
       reached =
           next c.args.limits.now (g.I.Source.left c.args.input.now) (g.I.Source.left c.loop-tree.input) (g.I.Source.left c.next_tree.new.source) (g.O.Sink.written c.args.out.now) (g.O.Sink.written c.loop-tree.out) (g.O.Sink.written c.write_text.new.out)
