@@ -26,20 +26,17 @@ pub sorts_end : (state : State) (missing : Place) (trees : Meant) (so_far : List
 sorts_end state missing trees so_far draft is = rw is (ap (λ (sorts : List ℕ). Ok (sorts, draft)) (append-nil so_far))
 
 -- one sort, and then those of the trees behind it
-module _ (state : State) (missing : Place) (trees rest : Meant) (means : (draft : Draft) → other_sorts state missing trees draft
-    ≡ then_from (λ (sort : ℕ). other_sorts state missing rest >>= λ (sorts : List ℕ). made (sort ∷ sorts)) (other_sort state missing trees draft)) where
-  pub sorts_next : (so_far more : List ℕ) (sort : ℕ) (draft : Draft) → other_sort state missing trees draft ≡ Ok (sort, draft) → more ≡ so_far ++ sort ∷ []
-      → behind_sorts more (other_sorts state missing rest draft) ≡ behind_sorts so_far (other_sorts state missing trees draft)
-  sorts_next so_far more sort draft makes all = sym (ap (behind_sorts so_far) (means draft ∙ ap (then_from (λ (s : ℕ). other_sorts state missing rest >>= λ (sorts : List ℕ). made (s ∷ sorts))) makes) ∙ by (other_sorts state missing rest draft))
+module _ (first : Making ℕ) (whole rest : Making (List ℕ)) (means : (draft : Draft) → whole draft ≡ then_from (λ (sort : ℕ). rest >>= λ (sorts : List ℕ). made (sort ∷ sorts)) (first draft)) where
+  pub sorts_next : (so_far more : List ℕ) (sort : ℕ) (draft : Draft) → first draft ≡ Ok (sort, draft) → more ≡ so_far ++ sort ∷ [] → behind_sorts more (rest draft) ≡ behind_sorts so_far (whole draft)
+  sorts_next so_far more sort draft makes all = sym (ap (behind_sorts so_far) (means draft ∙ ap (then_from (λ (s : ℕ). rest >>= λ (sorts : List ℕ). made (s ∷ sorts))) makes) ∙ by (rest draft))
     where
       by : (r : Result (List ℕ × Draft) SyntaxFault) → behind_sorts so_far (then_from (λ (sorts : List ℕ). made (sort ∷ sorts)) r) ≡ behind_sorts more r
       by (Ok r) = ap (λ (sorts : List ℕ). Ok (sorts, r.1)) (sym (append_assoc so_far (sort ∷ []) r.0) ∙ ap (λ (xs : List ℕ). xs ++ r.0) (sym all))
       by (Err fault) = refl
 
-  pub sorts_refused : (stopped : Stop) (so_far : List ℕ) (whole : Making (List ℕ)) (draft : Draft) → behind_sorts so_far (other_sorts state missing trees draft) ≡ whole draft
-      → Refuses stopped (other_sort state missing trees draft) → Refuses stopped (whole draft)
-  sorts_refused stop.Memory so_far whole draft same refused = tt {0}
-  sorts_refused (stop.Refused fault) so_far whole draft same refused = sym same ∙ ap (behind_sorts so_far) (means draft ∙ ap (then_from (λ (s : ℕ). other_sorts state missing rest >>= λ (sorts : List ℕ). made (s ∷ sorts))) refused)
+  pub sorts_refused : (stopped : Stop) (so_far : List ℕ) (all : Making (List ℕ)) (draft : Draft) → behind_sorts so_far (whole draft) ≡ all draft → Refuses stopped (first draft) → Refuses stopped (all draft)
+  sorts_refused stop.Memory so_far all draft same refused = tt {0}
+  sorts_refused (stop.Refused fault) so_far all draft same refused = sym same ∙ ap (behind_sorts so_far) (means draft ∙ ap (then_from (λ (s : ℕ). rest >>= λ (sorts : List ℕ). made (s ∷ sorts))) refused)
 
 pub sorts_of_token : (state : State) (missing : Place) (trees rest : Meant) (w : Word) → trees ≡ Token w rest → (draft : Draft) → other_sorts state missing trees draft
     ≡ then_from (λ (sort : ℕ). other_sorts state missing rest >>= λ (sorts : List ℕ). made (sort ∷ sorts)) (other_sort state missing trees draft)

@@ -1,3 +1,4 @@
 pub mod Commands
 pub mod Answers
+pub mod Parameters
 pub mod SessionLaws

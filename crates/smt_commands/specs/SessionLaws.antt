@@ -1,13 +1,11 @@
 -- What stands in a session is right, and every command keeps it so.
-use Rattle.std.specs.Prelude.{◌≡◌, ℕ, ◌≤◌, List, [], ◌∷◌, length, take, reverse, Ok}
-use Rattle.em_outside.specs.declared.limits.Limits.{Limits}
+use Rattle.std.specs.Prelude.{◌≡◌, ◌≤◌, List, [], ◌∷◌, length, take, reverse, Ok}
 use Rattle.smt_text.specs.Word.{Word}
 use Rattle.formula_shape.specs.Draft.{Formula, IsFormula}
 use Rattle.smt_names.specs.declared.level.Level.{Level}
-use Rattle.smt_names.specs.Names.{State, Declared, Defined, at_start}
+use Rattle.smt_names.specs.Names.{State, Declared, Defined}
 use Rattle.shape_laws.specs.Sorted.{IsTruth}
 use Rattle.shape_laws.specs.Sound.{AreDeclared}
-use Rattle.smt_commands.specs.declared.command.Command.{Command}
 use Rattle.smt_commands.specs.declared.command.Command.TheVariants.{Assert}
 use Rattle.smt_commands.specs.Commands.{Answer, elaborate}
 

@@ -4,8 +4,10 @@
 mod command;
 mod declaring;
 mod info;
+pub mod laws;
 mod levels;
 mod named;
+mod parameters;
 mod parts;
 mod reading;
 mod session;

@@ -4,6 +4,7 @@ ghost use Rattle.smt_names.specs.Names.{at_start};
 ghost use Rattle.smt_terms.specs.Cursor.{here};
 ghost use Rattle.smt_commands.specs.Answers.{Answers};
 ghost use Rattle.smt_commands.specs.Commands.{begun, command_of, elaborate, headed, symbol_name};
+ghost use Rattle.smt_commands.specs.SessionLaws.{IsSound};
 
 use crate::command::Command;
 use crate::declaring::{declare_const, declare_fun, declare_sort, set_option};
@@ -12,6 +13,7 @@ use crate::named::{Named, command_named};
 use crate::reading::{ask, get_info, set_info, set_logic};
 use crate::terms::{assert_truth, define_fun};
 use em_outside::Limits;
+use shape_laws::laws::{definition_law, formula_law};
 use smt_names::{Refusal, SessionState, Stop, is_symbol};
 use smt_terms::{Seen, kind_at, look, place_at, text_at};
 use smt_text::{Place, Tree};
@@ -27,6 +29,7 @@ fn read_named(
     head: Place,
     name: Named,
 ) -> Result<Command, Stop>
+    requires { IsSound state.old }
     ensures answer { Answers result state.new (begun state.old (headed state.old head (here tree.now i) name)) }
     ensures err { OnErr result (state.new ≡ state.old) }
 {
@@ -60,6 +63,7 @@ fn read_list(
     i: u32,
     paren: Place,
 ) -> Result<Command, Stop>
+    requires { IsSound state.old }
     ensures answer { Answers result state.new (begun state.old (command_of state.old paren (here tree.now i))) }
     ensures err { OnErr result (state.new ≡ state.old) }
 {
@@ -92,6 +96,10 @@ impl Model for Session {
     ghost Value = { State };
 
     ghost view = { λ session. session.state };
+
+    ghost use Rattle.smt_commands.specs.SessionLaws.{IsSound};
+
+    ghost invariant = { λ session. IsSound session.state };
 }
 
 impl Session {
@@ -107,12 +115,12 @@ impl Session {
 
     /// Reads one command. Its answer, the state after it, and each refusal with its place and its name are those that are
     /// defined. Memory can lack at any command. After an `Err` the session is as before.
-    ///
-    /// An `assert` or a `define-fun` that is not refused has no shape yet, and finds no memory.
     pub fn command(&mut self, tree: &Tree) -> Result<Command, Stop>
         ensures answer { Answers result self.new (elaborate self.old tree.now) }
         ensures err { OnErr result (self.new ≡ self.old) }
     {
+        formula_law();
+        definition_law();
         let alloc = self.alloc;
         match look(tree, 0) {
             Seen::End => Err(Stop::at(alloc, Refusal::BadForm, Place { line: 1, column: 1 })),
@@ -121,9 +129,10 @@ impl Session {
         }
     }
 
-    /// How many levels are open.
+    /// How many levels are open. What is declared and defined is right, as a caller learns here.
     pub fn levels(&self) -> u32
-        ensures { result ≡ length self.now.levels }
+        ensures count { result ≡ length self.now.levels }
+        ensures sound { IsSound self.now }
     {
         self.state.levels()
     }

@@ -1,64 +1,26 @@
 //! Commands with a term.
-ghost use Rattle.std.specs.Prelude.{◌≡◌, ◌==◌, List, ℕ};
-ghost use Rattle.smt_names.specs.Makes.{Checks, Makes};
+ghost use Rattle.std.specs.Prelude.{◌≡◌, ◌==◌, Ok, OnErr};
+ghost use Rattle.smt_names.specs.Makes.{Makes};
 ghost use Rattle.smt_names.specs.Value.{sort_of};
-ghost use Rattle.smt_terms.specs.Cursor.{here};
+ghost use Rattle.smt_names.specs.Names.{head_of, with_definition};
+ghost use Rattle.smt_names.specs.declared.head.Head.TheVariants.{Unknown};
+ghost use Rattle.smt_commands.specs.declared.command.Command.TheVariants.{Silent};
+ghost use Rattle.smt_terms.specs.Cursor.{here, word_at};
 ghost use Rattle.smt_terms.specs.Machine.{scope_of};
 ghost use Rattle.smt_commands.specs.Answers.{Answers};
-ghost use Rattle.smt_commands.specs.Commands.{assert_truth, asserted_term, begun, define_fun, defined_by, few_bindings, parameters_first, parameters_of, sorted_value};
+ghost use Rattle.smt_commands.specs.Commands.{assert_truth, asserted_term, begun, define_fun, defined_by, sorted_value, sorts_of};
+ghost use Rattle.smt_commands.specs.SessionLaws.{IsSound};
 
 use crate::command::Command;
 use crate::declaring::check_named;
-use crate::parts::{check_list, first_place_at, sort_at};
+use crate::parameters::{Parameters, parameters_at};
+use crate::parts::{first_place_at, sort_at};
 use formula_shape::ShapeDraft;
-use smt_names::{BoundNames, Refusal, SessionState, Stop, Value};
-use smt_terms::{
-    Inside, behind_one, behind_some, check_exactly, check_few_bindings, check_names,
-    elaborate_term, read_variables,
-};
+use shape_laws::laws::formula_law;
+use smt_names::{BoundNames, Definition, Refusal, SessionState, Stop, Value};
+use smt_terms::{Inside, behind_one, behind_some, check_exactly, elaborate_term, text_at};
 use smt_text::{Place, Tree};
 use std::alloc::Global;
-
-/// At most 255 bindings come next, to the end of the list.
-fn check_parameters(alloc: Global, tree: &Tree, i: u32) -> Result<(), Stop>
-    ensures { Checks result (few_bindings (here tree.now i)) }
-{
-    match check_names(alloc, tree, i) {
-        Err(stop) => Err(stop),
-        Ok(()) => check_few_bindings(alloc, tree, i, 255, Refusal::TooManyArguments),
-    }
-}
-
-/// The parameters that come next, to the end of the list.
-fn parameters_of(
-    alloc: Global,
-    state: &SessionState,
-    tree: &Tree,
-    i: u32,
-) -> Result<BoundNames, Stop>
-    ensures { Checks result (parameters_of state.now (here tree.now i)) }
-{
-    match check_parameters(alloc, tree, i) {
-        Err(stop) => Err(stop),
-        Ok(()) => read_variables(alloc, state, tree, i),
-    }
-}
-
-/// A list of parameters must come next.
-fn parameters_at(
-    alloc: Global,
-    state: &SessionState,
-    tree: &Tree,
-    i: u32,
-    missing: Place,
-) -> Result<BoundNames, Stop>
-    ensures { Checks result (parameters_first state.now missing (here tree.now i)) }
-{
-    match check_list(alloc, tree, i, missing) {
-        Err(stop) => Err(stop),
-        Ok(inner) => parameters_of(alloc, state, tree, inner),
-    }
-}
 
 /// Whether a value has this sort.
 fn has_sort(value: Value, sort: u32) -> bool
@@ -94,62 +56,91 @@ fn sorted_value_at(
     }
 }
 
-/// What is defined of these parameters. What is not refused is not put down yet, and finds no memory.
+/// Puts a definition down, whose name is new.
+fn put_definition(
+    state: &mut SessionState,
+    name: &[u8],
+    definition: Definition,
+) -> Result<Command, Stop>
+    requires { head_of state.old name.now ≡ Unknown }
+    ensures answer { Answers result state.new (Ok (record { command = Silent; state = with_definition name.now definition state.old })) }
+    ensures err { OnErr result (state.new ≡ state.old) }
+{
+    match state.define(name, definition) {
+        Err(_) => Err(Stop::Memory),
+        Ok(()) => Ok(Command::Silent),
+    }
+}
+
+/// What is defined of these parameters, under the name that a token has.
 fn define_by(
     alloc: Global,
-    state: &SessionState,
+    state: &mut SessionState,
     tree: &Tree,
-    parameters: &mut BoundNames,
+    name: u32,
+    parameters: Parameters,
     sorted: u32,
     given: u32,
     head: Place,
 ) -> Result<Command, Stop>
-    ensures { (name : List ℕ) → Answers result state.now (begun state.now (defined_by state.now head name parameters.old (here tree.now sorted) (here tree.now given))) }
+    requires sorts { parameters.sorts ≡ sorts_of parameters.bound }
+    requires new { head_of state.old (word_at tree.now name).text ≡ Unknown }
+    ensures answer { Answers result state.new (begun state.old (defined_by state.old head (word_at tree.now name).text parameters.bound (here tree.now sorted) (here tree.now given))) }
+    ensures err { OnErr result (state.new ≡ state.old) }
 {
     let inside = Inside {
         in_forall: false,
         in_definition: true,
     };
+    let Parameters { mut bound, sorts } = parameters;
     match sort_at(alloc, state, tree, sorted, head) {
         Err(stop) => Err(stop),
         Ok(sort) => {
             let limits = state.limits();
             let mut draft = ShapeDraft::new(alloc, limits.terms, limits.nodes);
             match sorted_value_at(
-                alloc, &mut draft, state, tree, parameters, inside, given, head, sort,
+                alloc, &mut draft, state, tree, &mut bound, inside, given, head, sort,
             ) {
                 Err(stop) => Err(stop),
-                Ok(_) => Err(Stop::Memory),
+                Ok(value) => {
+                    let definition = Definition {
+                        parameters: sorts,
+                        sort,
+                        draft,
+                        value,
+                    };
+                    put_definition(state, text_at(tree, name), definition)
+                }
             }
         }
     }
 }
 
-/// A name is defined. Each refusal comes as is defined. A definition that is not refused is not put down yet, and finds no
-/// memory.
+/// A name is defined.
 pub(crate) fn define_fun(
     alloc: Global,
-    state: &SessionState,
+    state: &mut SessionState,
     tree: &Tree,
     i: u32,
     head: Place,
 ) -> Result<Command, Stop>
-    ensures { Answers result state.now (begun state.now (define_fun state.now head (here tree.now i))) }
+    ensures answer { Answers result state.new (begun state.old (define_fun state.old head (here tree.now i))) }
+    ensures err { OnErr result (state.new ≡ state.old) }
 {
     match check_named(alloc, state, tree, i, 4, head) {
         Err(stop) => Err(stop),
         Ok(()) => match parameters_at(alloc, state, tree, behind_one(tree, i), head) {
             Err(stop) => Err(stop),
-            Ok(mut parameters) => {
+            Ok(parameters) => {
                 let sorted = behind_some(tree, i, 2);
                 let given = behind_some(tree, i, 3);
-                define_by(alloc, state, tree, &mut parameters, sorted, given, head)
+                define_by(alloc, state, tree, i, parameters, sorted, given, head)
             }
         },
     }
 }
 
-/// The formula that comes next is asserted. What is not refused has no shape yet, and finds no memory.
+/// The formula that comes next is asserted.
 fn assert_term(
     alloc: Global,
     state: &SessionState,
@@ -157,8 +148,10 @@ fn assert_term(
     i: u32,
     head: Place,
 ) -> Result<Command, Stop>
+    requires { IsSound state.now }
     ensures { Answers result state.now (begun state.now (asserted_term state.now head (here tree.now i))) }
 {
+    formula_law();
     let limits = state.limits();
     let mut draft = ShapeDraft::new(alloc, limits.terms, limits.nodes);
     let mut bound = BoundNames::new(alloc);
@@ -170,12 +163,14 @@ fn assert_term(
         alloc, &mut draft, state, tree, &mut bound, inside, i, head, 0,
     ) {
         Err(stop) => Err(stop),
-        Ok(_) => Err(Stop::Memory),
+        Ok(value) => {
+            let shape = draft.finish(value.node());
+            Ok(Command::Assert { shape })
+        }
     }
 }
 
-/// A formula is asserted. Each refusal comes as is defined. A formula that is not refused has no shape yet, and finds no
-/// memory.
+/// A formula is asserted.
 pub(crate) fn assert_truth(
     alloc: Global,
     state: &SessionState,
@@ -183,6 +178,7 @@ pub(crate) fn assert_truth(
     i: u32,
     head: Place,
 ) -> Result<Command, Stop>
+    requires { IsSound state.now }
     ensures { Answers result state.now (begun state.now (assert_truth state.now head (here tree.now i))) }
 {
     match check_exactly(alloc, tree, i, 1, head) {

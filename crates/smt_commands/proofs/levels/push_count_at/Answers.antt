@@ -1,4 +1,4 @@
-use Rattle.std.proofs.Common.{◌∙◌, ◌+◌, nat_le, sym, ℕ, true, false, length}
+use Rattle.std.proofs.Common.{◌∙◌, ◌+◌, nat_le, sym, ℕ, length}
 use Rattle.smt_terms.specs.Cursor.{here}
 use Rattle.smt_names.specs.Making.{made, want, ◌>>◌}
 use Rattle.smt_names.specs.declared.refusal.Refusal.TheVariants.{LevelsFull}

@@ -1,9 +1,8 @@
-use Rattle.std.proofs.Common.{◌≡◌, ℕ, ◌+◌, List, [], Result, Ok, Err, refl, sym, ap, subst, ◌∙◌}
+use Rattle.std.proofs.Common.{◌≡◌, ◌+◌, List, [], Result, Err, refl, sym, ap, subst, ◌∙◌}
 use Rattle.smt_text.specs.Word.{Word}
 use Rattle.smt_text.specs.declared.token.Place.{Place}
 use Rattle.smt_names.specs.declared.stop.Stop.{Stop}
 use Rattle.smt_names.specs.declared.stop.Stop.TheVariants as stop
-use Rattle.smt_names.specs.declared.refusal.Refusal.{Refusal}
 use Rattle.smt_names.specs.declared.refusal.Refusal.TheVariants.{BadForm}
 use Rattle.smt_names.specs.declared.syntax_fault.SyntaxFault.{SyntaxFault}
 use Rattle.smt_names.specs.Making.{fault_of}
@@ -15,6 +14,8 @@ use Rattle.smt_terms.specs.Cursor.{word_at, here}
 use Rattle.smt_commands.specs.declared.command.Command.{Command}
 use Rattle.smt_commands.specs.Answers.{Answers}
 use Rattle.smt_commands.specs.Commands.{Answer, begun, command_at, command_of, elaborate, start}
+use Rattle.smt_commands.proofs.Sound.{stays_sound}
+use Rattle.smt_commands.proofs.SessionLaw.{keeps_sound}
 use Rattle.smt_commands.proofs.session.Session.command.Goals as goal
 
 -- what is elaborated is what stands from the first token on
@@ -41,3 +42,8 @@ returns-in-Token-clause-answer c = first_refused c.args.self.now c.args.tree.now
 pub returns-in-List-clause-answer : goal.returns-in-List-clause-answer
 returns-in-List-clause-answer c = list_answers c.args.self.now c.args.tree.now c.self.inside.state c.read_list.new.state c.read_list.result c.place_at-in-List.result (list_value (word_at c.args.tree.now 0) (here c.args.tree.now (0 + 1))) (here c.args.tree.now (0 + 1)) (here c.args.tree.now c.in-List.after)
     c.self.view_is c.place_at-in-List.ensures c.in-List.ensures.is c.read_list.ensures.answer
+
+pub invariant_of-self : goal.invariant_of-self
+invariant_of-self c = stays_sound (keeps_sound c.formula_law.ensures c.definition_law.ensures.makes c.definition_law.ensures.keeps) c.self.inside.state c.read_list.new.state c.args.tree.now c.read_list.result c.self.invariant
+    (list_answers c.self.inside.state c.args.tree.now c.self.inside.state c.read_list.new.state c.read_list.result c.place_at-in-List.result (list_value (word_at c.args.tree.now 0) (here c.args.tree.now (0 + 1))) (here c.args.tree.now (0 + 1)) (here c.args.tree.now c.in-List.after)
+    refl c.place_at-in-List.ensures c.in-List.ensures.is c.read_list.ensures.answer) c.read_list.ensures.err

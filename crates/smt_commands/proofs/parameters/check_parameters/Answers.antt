@@ -3,7 +3,7 @@ use Rattle.smt_terms.specs.Cursor.{here}
 use Rattle.smt_names.specs.declared.refusal.Refusal.TheVariants.{TooManyArguments}
 use Rattle.smt_terms.specs.Meant.{from, bindings_after, no_binding}
 use Rattle.smt_commands.proofs.Steps.{refused_first, makes_after}
-use Rattle.smt_commands.proofs.terms.check_parameters.Goals as goal
+use Rattle.smt_commands.proofs.parameters.check_parameters.Goals as goal
 
 pub returns-in-Err : goal.returns-in-Err
 returns-in-Err c draft = refused_first (λ (_ : Unit {0}). no_binding TooManyArguments (from 255 (here c.args.tree.now c.args.i))) c.in-Err.stop (bindings_after [] (here c.args.tree.now c.args.i) draft) (c.in-Err.ensures draft)

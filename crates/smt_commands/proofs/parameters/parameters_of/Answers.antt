@@ -1,0 +1,8 @@
+use Rattle.smt_terms.specs.Cursor.{here}
+use Rattle.smt_terms.specs.Terms.{variables_from}
+use Rattle.smt_commands.specs.Commands.{few_bindings}
+use Rattle.smt_commands.proofs.Bindings.{has_after}
+use Rattle.smt_commands.proofs.parameters.parameters_of.Goals as goal
+
+pub returns-in-Ok-read_variables : goal.returns-in-Ok-read_variables
+returns-in-Ok-read_variables c = has_after (λ (_ : Unit {0}). variables_from c.args.state.now 0 (here c.args.tree.now c.args.i)) c.with_sorts.result (few_bindings (here c.args.tree.now c.args.i)) _ c.in-Ok.ensures c.with_sorts.ensures
