@@ -16,3 +16,6 @@ mod terms;
 pub use command::Command;
 pub use info::Info;
 pub use session::Session;
+
+#[cfg(test)]
+mod tests;
