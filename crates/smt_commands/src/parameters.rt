@@ -59,7 +59,8 @@ fn parameter_sorts_at(
     }
 }
 
-/// The parameters with their sorts, where they are bound names already.
+/// The parameters with their sorts, where they are bound names already. Their sorts were read before, so that memory alone
+/// can lack.
 fn with_sorts(
     alloc: Global,
     state: &SessionState,
