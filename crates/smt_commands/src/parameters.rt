@@ -59,8 +59,7 @@ fn parameter_sorts_at(
     }
 }
 
-/// The parameters with their sorts, where they are bound names already. Their sorts were read before, so that memory alone
-/// can lack.
+/// The parameters with their sorts, where they are bound names already.
 fn with_sorts(
     alloc: Global,
     state: &SessionState,
