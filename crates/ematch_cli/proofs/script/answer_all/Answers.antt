@@ -52,10 +52,11 @@ returns-then-reply-clause-answers g c =
 pub returns-in-Err-Refused-clause-answers : goal.returns-in-Err-Refused-clause-answers
 returns-in-Err-Refused-clause-answers g c =
     let read = rw c.in-Ok-Some.field-0-is at c.in-Ok-Some.ensures in
+    let writes = subst (λ (line : List ℕ). WritesError line (g.O.Sink.written c.loop-tree.out) (g.O.Sink.written c.refuse.new.out) c.refuse.result) c.as_slice-in-Err-Refused.ensures.value c.refuse.ensures.writes in
     refused_command c.args.limits.now (g.I.Source.left c.args.input.now) (g.I.Source.left c.loop-tree.input) (g.I.Source.left c.next_tree.new.source) (g.O.Sink.written c.args.out.now) (g.O.Sink.written c.loop-tree.out) (g.O.Sink.written c.refuse.new.out)
     (run_state c.loop-tree.session c.loop-tree.stack) c.loop-tree.reader c.next_tree.new.self c.loop-tree.invariant.reached c.in-Ok-Some.tree c.in-Err-Refused.line.items c.refuse.result
     (read.reads c.loop-tree.invariant.no_fault) (rw c.in-Err-Refused.field-0-is at c.in-Err-Refused.ensures.refused)
-    (subst (λ (line : List ℕ). WritesError line (g.O.Sink.written c.loop-tree.out) (g.O.Sink.written c.refuse.new.out) c.refuse.result) c.as_slice-in-Err-Refused.ensures.value c.refuse.ensures.writes)
+    (rw c.in-Err-Refused.field-0-is at writes)
 
 pub returns-in-Err-Memory-clause-answers : goal.returns-in-Err-Memory-clause-answers
 returns-in-Err-Memory-clause-answers g c =
