@@ -358,62 +358,84 @@ const TERMS: &[(&str, &str)] = &[
 #[test]
 fn terms_are_refused_where_they_are_wrong(rt: HostRuntime) -> Result<(), Fail> {
     for (script, said) in TERMS {
-        assert!(rt; is_refused(&rt, [script, "", ""], said)?, "{script}");
+        assert!(rt; is_refused(&rt, script, said)?, "{script}");
     }
     Ok(())
 }
 
-/// A text so many times.
-fn repeated(alloc: Global, text: &str, count: u32) -> Result<String, AllocError> {
-    let mut all = String::new(alloc);
+/// A script with a part so many times.
+fn repeated(
+    alloc: Global,
+    before: &str,
+    part: &str,
+    count: u32,
+    behind: &str,
+) -> Result<String, AllocError> {
+    let mut script = String::from_str(alloc, before)?;
     for _ in 0..count {
-        all.push_str(text)?;
+        script.push_str(part)?;
     }
-    Ok(all)
+    script.push_str(behind)?;
+    Ok(script)
 }
 
-/// Bindings of so many names.
-fn bindings(alloc: Global, count: u32) -> Result<String, AllocError> {
-    let mut all = String::new(alloc);
+/// A forall with so many variables.
+fn forall_of(alloc: Global, count: u32) -> Result<String, AllocError> {
+    let mut script = String::from_str(alloc, "(assert (forall (")?;
     for i in 0..count {
         let binding = format!(in alloc; "(x{i} U)")?;
-        all.push_str(binding.as_str())?;
+        script.push_str(binding.as_str())?;
     }
-    Ok(all)
+    script.push_str(") (p x0)))")?;
+    Ok(script)
+}
+
+/// What stands before the patterns of a trigger.
+const TRIGGER: &str = "(assert (forall ((x U)) (! (p x) :pattern (";
+
+/// A trigger of one pattern that holds so many applications.
+fn pattern_of(alloc: Global, count: u32) -> Result<String, AllocError> {
+    let mut script = repeated(alloc, TRIGGER, "(f ", count, "x")?;
+    for _ in 0..count {
+        script.push_str(")")?;
+    }
+    script.push_str("))))")?;
+    Ok(script)
 }
 
 /// Whether the script, which is in one line behind the declarations, is refused so.
-fn is_refused(rt: &HostRuntime, script: [&str; 3], said: &str) -> Result<bool, AllocError> {
-    let [before, middle, behind] = script;
-    let left = run(
-        rt,
-        &[TERMS_DECLARED, before, middle, behind],
-        4096,
-        &[],
-        &[],
-    )?;
+fn is_refused(rt: &HostRuntime, script: &str, said: &str) -> Result<bool, AllocError> {
+    let left = run(rt, &[TERMS_DECLARED, script], 4096, &[], &[])?;
     let line = format!(in rt.alloc(); "(error \"line 2 {said}\")\n")?;
     Ok(left.code == 1 && left.out.as_slice() == line.as_bytes())
 }
 
+fn too_many_variables_are_refused(rt: &HostRuntime) -> Result<bool, AllocError> {
+    let script = forall_of(rt.alloc(), 33)?;
+    is_refused(rt, script.as_str(), "column 233: too many variables")
+}
+
+fn too_many_arguments_are_refused(rt: &HostRuntime) -> Result<bool, AllocError> {
+    let script = repeated(rt.alloc(), "(declare-fun g (", "U ", 256, ") U)")?;
+    is_refused(rt, script.as_str(), "column 527: too many arguments")
+}
+
+fn too_many_patterns_are_refused(rt: &HostRuntime) -> Result<bool, AllocError> {
+    let script = repeated(rt.alloc(), TRIGGER, "(p x) ", 17, "))))")?;
+    is_refused(rt, script.as_str(), "column 140: too many patterns")
+}
+
+fn a_large_pattern_is_refused(rt: &HostRuntime) -> Result<bool, AllocError> {
+    let script = pattern_of(rt.alloc(), 256)?;
+    is_refused(rt, script.as_str(), "column 44: the pattern is too large")
+}
+
 #[test]
 fn the_first_too_many_is_refused(rt: HostRuntime) -> Result<(), Fail> {
-    let alloc = rt.alloc();
-    let variables = bindings(alloc, 33)?;
-    let forall = ["(assert (forall (", variables.as_str(), ") (p x0)))"];
-    assert!(rt; is_refused(&rt, forall, "column 233: too many variables")?);
-    let sorts = repeated(alloc, "U ", 256)?;
-    let function = ["(declare-fun g (", sorts.as_str(), ") U)"];
-    assert!(rt; is_refused(&rt, function, "column 527: too many arguments")?);
-    let begun = "(assert (forall ((x U)) (! (p x) :pattern (";
-    let patterns = repeated(alloc, "(p x) ", 17)?;
-    let many = [begun, patterns.as_str(), "))))"];
-    assert!(rt; is_refused(&rt, many, "column 140: too many patterns")?);
-    let opened = repeated(alloc, "(f ", 256)?;
-    let closed = repeated(alloc, ")", 256)?;
-    let pattern = format!(in alloc; "{opened}x{closed}")?;
-    let large = [begun, pattern.as_str(), "))))"];
-    assert!(rt; is_refused(&rt, large, "column 44: the pattern is too large")?);
+    assert!(rt; too_many_variables_are_refused(&rt)?);
+    assert!(rt; too_many_arguments_are_refused(&rt)?);
+    assert!(rt; too_many_patterns_are_refused(&rt)?);
+    assert!(rt; a_large_pattern_is_refused(&rt)?);
     Ok(())
 }
 
