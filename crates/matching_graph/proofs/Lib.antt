@@ -1,3 +1,4 @@
 pub mod NthLemmas
 pub mod GatherLemmas
 pub mod StepLemmas
+pub mod RootLemmas

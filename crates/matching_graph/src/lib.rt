@@ -3,5 +3,6 @@
 
 pub mod graph;
 mod matches;
+mod roots;
 
 pub use graph::MatchingGraph;
