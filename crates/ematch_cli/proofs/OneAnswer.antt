@@ -4,11 +4,11 @@ use Rattle.std.specs.Prelude.{Result}
 use Rattle.em_outside.specs.declared.limits.Limits.{Limits}
 use Rattle.smt_text.specs.Word.{Word}
 use Rattle.smt_text.specs.Script.{Script, End, Fault, Command}
-use Rattle.formula_shape.specs.Draft.{Formula, IsFormula}
+use Rattle.formula_draft.specs.Draft.{Formula, IsFormula}
 use Rattle.formula_table.specs.declared.enter_fault.EnterFault.{EnterFault}
-use Rattle.assertion_stack.specs.Assertions.{Assertions, no_assertions, pushed, popped}
-use Rattle.assertion_stack.specs.AssertShape.{StopsAssert}
-use Rattle.assertion_stack.specs.OutcomeLaws.{AreTables, tables_at_start, tables_pushed, tables_popped, tables_asserted, asserts_formula_once, asserted_not_stopped, stopped_once}
+use Rattle.formula_assert.specs.Assertions.{Assertions, no_assertions, pushed, popped}
+use Rattle.formula_assert.specs.AssertFormula.{StopsAssert}
+use Rattle.formula_assert.specs.OutcomeLaws.{AreTables, tables_at_start, tables_pushed, tables_popped, tables_asserted, asserts_formula_once, asserted_not_stopped, stopped_once}
 use Rattle.smt_names.specs.Names.{State, at_start}
 use Rattle.smt_names.specs.declared.syntax_fault.SyntaxFault.{SyntaxFault}
 use Rattle.smt_commands.specs.SessionLaws.{IsSound, KeepsSound}
@@ -54,7 +54,7 @@ response_once command.CheckSat before after a b one other = listing_once (names_
 response_once (command.GetInfo info) before after a b one other = one ∙ sym other
 response_once command.Reset before after a b one other = one ∙ sym other
 response_once command.Silent before after a b one other = one ∙ sym other
-response_once (command.Assert shape) before after a b one other = one ∙ sym other
+response_once (command.Assert formula) before after a b one other = one ∙ sym other
 response_once (command.Push count) before after a b one other = one ∙ sym other
 response_once (command.Pop count) before after a b one other = one ∙ sym other
 response_once command.ResetAssertions before after a b one other = one ∙ sym other

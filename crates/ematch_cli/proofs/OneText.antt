@@ -1,11 +1,11 @@
 -- Each text that is listed is the only one of its kind.
 use Rattle.std.proofs.Common.{◌≡◌, ℕ, List, [], ◌∷◌, ◌++◌, length, refl, sym, ap, ap₂, subst, ◌∙◌, arith}
-use Rattle.term_table.specs.declared.term_row.TermRow.{TermRow}
-use Rattle.term_table.specs.declared.trigger.Trigger.{Trigger}
-use Rattle.term_table.specs.declared.done.Done.{Done}
-use Rattle.term_table.specs.Terms.{term_row, HasRow}
-use Rattle.term_table.specs.Standing.{terms_of}
-use Rattle.term_table.specs.OneListLaws.{one_matches}
+use Rattle.graph_terms.specs.declared.term_row.TermRow.{TermRow}
+use Rattle.graph_trigger.specs.declared.trigger.Trigger.{Trigger}
+use Rattle.graph_meaning.specs.declared.done.Done.{Done}
+use Rattle.graph_terms.specs.Terms.{term_row, HasRow}
+use Rattle.graph_meaning.specs.Standing.{terms_of}
+use Rattle.graph_meaning.specs.OneListLaws.{one_matches}
 use Rattle.ematch_cli.specs.Joined.{AreJoined, joined_none, joined_more}
 use Rattle.ematch_cli.specs.Printed.{symbol_text, IsTermText, constant, application, AreTermTexts, texts_none, texts_more, IsPrinted, whole, numbered, IsEntry}
 use Rattle.ematch_cli.specs.Listing.{line, heading, IsTupleLine, IsTriggerListing, IsListing}

@@ -1,6 +1,6 @@
 -- One change more of several.
 use Rattle.std.proofs.Common.{◌≡◌, ℕ, suc, ◌+◌, ◌-◌, ◌<◌, sym, ap, ◌∙◌, arith}
-use Rattle.assertion_stack.specs.Assertions.{Assertions}
+use Rattle.formula_assert.specs.Assertions.{Assertions}
 use Rattle.ematch_cli.specs.Run.{repeated}
 
 -- the same change once more

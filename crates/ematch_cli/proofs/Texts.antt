@@ -2,8 +2,8 @@
 use Rattle.std.proofs.Common.{◌≡◌, ◌≢◌, ℕ, ◌+◌, ◌≤◌, List, [], ◌∷◌, ◌++◌, length, drop, Some, refl, sym, ap, subst, ◌∙◌, arith, append_assoc}
 use Rattle.std.specs.Prelude.{slice_get}
 use Rattle.std.proofs.lemmas.List.{drop_all, append-nil}
-use Rattle.term_table.specs.declared.term_row.TermRow.{TermRow}
-use Rattle.term_table.specs.Terms.{term_row, HasRow}
+use Rattle.graph_terms.specs.declared.term_row.TermRow.{TermRow}
+use Rattle.graph_terms.specs.Terms.{term_row, HasRow}
 use Rattle.ematch_cli.specs.Printed.{symbol_text, IsTermText, constant, application, AreTermTexts, texts_none, texts_more}
 use Rattle.ematch_cli.specs.Joined.{AreJoined, joined_none, joined_more}
 use Rattle.ematch_cli.specs.Writing.{Puts}

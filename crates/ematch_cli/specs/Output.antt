@@ -5,7 +5,7 @@ use Rattle.smt_text.specs.Script.{Script, End, Fault, Command, script_of}
 use Rattle.smt_text.specs.declared.byte_fault.ByteFault.{ByteFault}
 use Rattle.smt_text.specs.declared.byte_fault.ByteFault.TheVariants.{Unclosed}
 use Rattle.smt_names.specs.Names.{at_start}
-use Rattle.assertion_stack.specs.Assertions.{no_assertions}
+use Rattle.formula_assert.specs.Assertions.{no_assertions}
 use Rattle.smt_commands.specs.declared.command.Command as syntax
 use Rattle.smt_commands.specs.declared.command.Command.TheVariants.{Exit}
 use Rattle.ematch_cli.specs.ErrorLine.{fault_line}

@@ -4,11 +4,11 @@ use Rattle.em_outside.specs.declared.limits.Limits.{Limits}
 use Rattle.smt_text.specs.Word.{Word}
 use Rattle.smt_commands.specs.declared.command.Command.{Command}
 use Rattle.smt_commands.specs.declared.command.Command.TheVariants.{Assert, Exit}
-use Rattle.formula_shape.specs.Draft.{Formula}
+use Rattle.formula_draft.specs.Draft.{Formula}
 use Rattle.formula_table.specs.declared.enter_fault.EnterFault.{EnterFault}
 use Rattle.formula_table.specs.declared.enter_fault.EnterFault.TheVariants as enter
-use Rattle.assertion_stack.specs.Assertions.{Assertions}
-use Rattle.assertion_stack.specs.AssertShape.{StopsAssert}
+use Rattle.formula_assert.specs.Assertions.{Assertions}
+use Rattle.formula_assert.specs.AssertFormula.{StopsAssert}
 use Rattle.smt_names.specs.declared.stop.Stop.{Stop}
 use Rattle.smt_names.specs.declared.stop.Stop.TheVariants as stop
 use Rattle.ematch_cli.specs.ErrorLine.{refusal_line, room_line}

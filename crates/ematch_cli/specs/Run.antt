@@ -2,11 +2,11 @@
 use Rattle.std.specs.Prelude.{◌≡◌, ◌≢◌, ◌⊎◌, ℕ, zero, suc, List, Ok, Err}
 use Rattle.em_outside.specs.declared.limits.Limits.{Limits}
 use Rattle.smt_text.specs.Word.{Word}
-use Rattle.formula_shape.specs.Draft.{Formula}
+use Rattle.formula_draft.specs.Draft.{Formula}
 use Rattle.formula_table.specs.declared.enter_fault.EnterFault.{EnterFault}
 use Rattle.formula_table.specs.declared.enter_fault.EnterFault.TheVariants.{Memory}
-use Rattle.assertion_stack.specs.Assertions.{Assertions, no_assertions, pushed, popped}
-use Rattle.assertion_stack.specs.AssertShape.{AssertsFormula, StopsAssert}
+use Rattle.formula_assert.specs.Assertions.{Assertions, no_assertions, pushed, popped}
+use Rattle.formula_assert.specs.AssertFormula.{AssertsFormula, StopsAssert}
 use Rattle.smt_names.specs.Names.{State}
 use Rattle.smt_names.specs.declared.syntax_fault.SyntaxFault.{SyntaxFault}
 use Rattle.smt_commands.specs.Commands.{Answer, elaborate}

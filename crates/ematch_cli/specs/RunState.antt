@@ -1,6 +1,6 @@
 -- What a run knows between two commands.
 use Rattle.smt_names.specs.Names.{State}
-use Rattle.assertion_stack.specs.Assertions.{Assertions}
+use Rattle.formula_assert.specs.Assertions.{Assertions}
 
 -- the declarations, levels and options, and the standing assertions
 pub record RunState : Type 0 where

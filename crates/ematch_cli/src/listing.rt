@@ -1,7 +1,7 @@
 //! The listing of all matches, as a text.
 ghost use Rattle.std.specs.Prelude.{◌≡◌, ◌<◌, ◌++◌, All, length, slice_get, Some, IfOk, OnOk};
-ghost use Rattle.term_table.specs.Standing.{terms_of, triggers_of};
-ghost use Rattle.term_table.specs.declared.trigger.Trigger.{Trigger};
+ghost use Rattle.graph_meaning.specs.Standing.{terms_of, triggers_of};
+ghost use Rattle.graph_trigger.specs.declared.trigger.Trigger.{Trigger};
 ghost use Rattle.ematch_cli.specs.Names.{names_of};
 ghost use Rattle.ematch_cli.specs.Joined.{AreJoined};
 ghost use Rattle.ematch_cli.specs.Printed.{IsEntry};
@@ -9,10 +9,12 @@ ghost use Rattle.ematch_cli.specs.Listing.{heading, IsTupleLine, IsTriggerListin
 ghost use Rattle.ematch_cli.specs.Writing.{Puts};
 
 use crate::printed::{push_entry, push_number};
-use matching_graph::MatchingGraph;
+use match_graph::MatchingGraph;
 use smt_commands::Session;
 use std::alloc::{AllocError, Global};
-use term_table::{ClassGraph, Memory, Numbers, Trigger};
+use graph_meaning::ClassGraph;
+use graph_terms::{Memory, Numbers};
+use graph_trigger::Trigger;
 
 /// Writes the heading of a trigger with so many matches.
 fn push_heading(text: &mut Vec<u8>, trigger: &Trigger, tuples: usize) -> Result<(), AllocError>

@@ -1,6 +1,6 @@
 //! Terms as text, put behind what was written before.
 ghost use Rattle.std.specs.Prelude.{◌≡◌, ◌≤◌, ◌<◌, ◌-◌, ◌++◌, ℕ, length, decimal, MatchOption, OnOk};
-ghost use Rattle.term_table.specs.Standing.{terms_of};
+ghost use Rattle.graph_meaning.specs.Standing.{terms_of};
 ghost use Rattle.ematch_cli.specs.Names.{names_of};
 ghost use Rattle.ematch_cli.specs.Printed.{symbol_text, HasTreeSize, IsTermText, IsPrinted, IsEntry};
 ghost use Rattle.ematch_cli.specs.Writing.{Puts};
@@ -9,7 +9,7 @@ use itoa::Buffer;
 use smt_commands::Session;
 use smt_text::is_simple;
 use std::alloc::AllocError;
-use term_table::ClassGraph;
+use graph_meaning::ClassGraph;
 
 /// The most symbols of a term that is written out.
 const MOST_SYMBOLS: u32 = 256;

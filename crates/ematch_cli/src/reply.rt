@@ -1,8 +1,8 @@
 //! What answers a command.
 ghost use Rattle.std.specs.Prelude.{◌≡◌, ◌≤◌, ◌↔◌, IsTrue, IfOk, IfErr, OnOk};
 ghost use Rattle.em_outside.specs.Limits.{AreLawful};
-ghost use Rattle.assertion_stack.specs.Assertions.{no_assertions, pushed, popped};
-ghost use Rattle.assertion_stack.specs.AssertShape.{AssertsFormula};
+ghost use Rattle.formula_assert.specs.Assertions.{no_assertions, pushed, popped};
+ghost use Rattle.formula_assert.specs.AssertFormula.{AssertsFormula};
 ghost use Rattle.smt_commands.specs.declared.command.Command.TheVariants.{Exit};
 ghost use Rattle.ematch_cli.specs.Run.{repeated, Does};
 ghost use Rattle.ematch_cli.specs.Response.{IsResponse};
@@ -13,15 +13,15 @@ use crate::error_line::{refusal_line, room_line};
 use crate::listing::listing;
 use crate::response::{info_text, success, unsupported};
 use crate::unanswered::Unanswered;
-use assertion_stack::AssertionStack;
+use formula_assert::AssertionStack;
 use em_outside::Limits;
-use formula_shape::Shape;
+use formula_draft::Formula;
 use formula_table::EnterFault;
 use smt_commands::{Command, Session};
 use smt_names::Stop;
 use smt_text::Tree;
 use std::alloc::{AllocError, Global};
-use term_table::Memory;
+use graph_terms::Memory;
 
 /// What answers a command.
 #[derive(Debug, Drop)]
@@ -69,16 +69,16 @@ fn forget(alloc: Global, limits: &Limits, stack: &mut AssertionStack) -> Result<
 }
 
 /// Asserts a formula, or gives the line that says that there is no room for it.
-fn assert_shape(
+fn assert_formula(
     alloc: Global,
     stack: &mut AssertionStack,
     tree: &Tree,
-    shape: &Shape,
+    formula: &Formula,
 ) -> Result<(), Unanswered>
-    ensures ok { OnOk result (AssertsFormula shape.now stack.old stack.new) }
-    ensures refused { IfErr result (FindsNoRoomFor shape.now stack.old tree.now) }
+    ensures ok { OnOk result (AssertsFormula formula.now stack.old stack.new) }
+    ensures refused { IfErr result (FindsNoRoomFor formula.now stack.old tree.now) }
 {
-    match stack.assert(shape) {
+    match stack.assert(formula) {
         Ok(()) => Ok(()),
         Err(EnterFault::Memory) => Err(Unanswered::Memory),
         Err(fault) => {
@@ -101,7 +101,7 @@ fn perform(
     ensures refused { IfErr result (IsWithoutRoom command.now stack.old tree.now) }
 {
     match command {
-        Command::Assert { shape } => assert_shape(alloc, stack, tree, shape),
+        Command::Assert { formula } => assert_formula(alloc, stack, tree, formula),
         Command::Push { count } => {
             push_levels(stack, *count)?;
             Ok(())

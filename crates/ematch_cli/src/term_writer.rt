@@ -1,6 +1,6 @@
 //! Writes a term to a sink.
 ghost use Rattle.std.specs.Prelude.{◌≡◌, ◌<◌, length, List, ℕ, OnOk, IfErr};
-ghost use Rattle.term_table.specs.Standing.{terms_of};
+ghost use Rattle.graph_meaning.specs.Standing.{terms_of};
 ghost use Rattle.ematch_cli.specs.Names.{names_of};
 ghost use Rattle.ematch_cli.specs.Printed.{IsPrinted};
 ghost use Rattle.ematch_cli.specs.WritesTerm.{WritesText, StopsText};
@@ -9,7 +9,7 @@ use crate::printed::push_printed;
 use em_outside::{Sink, write_all};
 use smt_commands::Session;
 use std::alloc::Global;
-use term_table::ClassGraph;
+use graph_meaning::ClassGraph;
 
 /// Why a term was not written whole.
 #[derive(Clone, Copy, Debug, PartialEq, Eq)]

@@ -2,7 +2,7 @@
 ghost use Rattle.std.specs.Prelude.{◌≡◌};
 
 use std::alloc::{AllocError, AllocFailed};
-use term_table::Memory;
+use graph_terms::Memory;
 
 /// Why a command gets no answer.
 #[derive(Debug, Drop)]

@@ -5,15 +5,15 @@ use Rattle.std.proofs.lemmas.Bool.{cases_lt}
 use Rattle.std.proofs.lemmas.List.{length-append}
 use Rattle.std.proofs.lemmas.List.Elements.{All-weaker}
 use Rattle.std.proofs.lemmas.Option.{same_Some, slice_get_within}
-use Rattle.term_table.specs.ListLaws.{push_cases}
-use Rattle.term_table.specs.declared.term_row.TermRow.{TermRow}
-use Rattle.term_table.specs.Terms.{HasRow, term_row}
-use Rattle.term_table.specs.TermEntry.{AddGrows}
-use Rattle.term_table.specs.TermEntry.AddGrows.{new_row, old_row}
-use Rattle.formula_shape.specs.declared.shape_row.ShapeRow.{ShapeRow}
-use Rattle.formula_shape.specs.declared.shape_row.ShapeRow.TheVariants.{Var, App}
-use Rattle.formula_shape.specs.Reach.{ReachesRow}
-use Rattle.formula_shape.specs.Draft.{Formula, IsFormula}
+use Rattle.graph_terms.specs.ListLaws.{push_cases}
+use Rattle.graph_terms.specs.declared.term_row.TermRow.{TermRow}
+use Rattle.graph_terms.specs.Terms.{HasRow, term_row}
+use Rattle.graph_terms.specs.TermEntry.{AddGrows}
+use Rattle.graph_terms.specs.TermEntry.AddGrows.{new_row, old_row}
+use Rattle.formula_draft.specs.declared.draft_row.DraftRow.{DraftRow}
+use Rattle.formula_draft.specs.declared.draft_row.DraftRow.TheVariants.{Var, App}
+use Rattle.formula_draft.specs.Reach.{ReachesRow}
+use Rattle.formula_draft.specs.Draft.{Formula, IsFormula}
 use Rattle.formula_table.specs.InOrder.{AreInOrder, IsFullFor, PutsNext}
 use Rattle.formula_table.specs.InOrder.PutsNext.{nothing, put_last, stood}
 use Rattle.formula_table.specs.Entry.{BecomesRow, EntersRows, entered_row, LacksMemory}
@@ -34,7 +34,7 @@ err_map P Q (Ok x) f h = tt
 err_map P Q (Err e) f h = f e h
 
 -- the row over terms that a row of a formula is
-abbrev row_over : List ℕ → ShapeRow → TermRow
+abbrev row_over : List ℕ → DraftRow → TermRow
 row_over terms (Var index) = entered_row terms 0 []
 row_over terms (App symbol args) = entered_row terms symbol args
 

@@ -6,10 +6,10 @@ use Rattle.std.proofs.lemmas.List.{length-append}
 use Rattle.std.proofs.lemmas.List.Elements.{Contains-push, Contains-push_cases, Contains-append_left}
 use Rattle.std.proofs.lemmas.List.Quantifiers.{all_pairs_push}
 use Rattle.std.proofs.lemmas.Option.{none-some, same_Some, slice_get_within, slice_get-get_or}
-use Rattle.term_table.specs.declared.trigger.Trigger.{Trigger}
-use Rattle.term_table.specs.ListLaws.{element_at, slice_get-append_left, slice_get-push, push_cases, place_from_Contains, Contains-slice_get}
-use Rattle.formula_shape.specs.declared.shape_forall.ShapeForall.{ShapeForall}
-use Rattle.formula_shape.specs.Draft.{Formula}
+use Rattle.graph_trigger.specs.declared.trigger.Trigger.{Trigger}
+use Rattle.graph_terms.specs.ListLaws.{element_at, slice_get-append_left, slice_get-push, push_cases, place_from_Contains, Contains-slice_get}
+use Rattle.formula_draft.specs.declared.draft_forall.DraftForall.{DraftForall}
+use Rattle.formula_draft.specs.Draft.{Formula}
 use Rattle.formula_table.specs.declared.table_forall.TableForall.{TableForall}
 use Rattle.formula_table.specs.Formulas.{Formulas, GrowsTable, with_foralls}
 use Rattle.formula_table.specs.Entry.{placed, numbered, table_forall, ReachesForall, EntersForalls}
@@ -85,7 +85,7 @@ module _ (formula : Formula) (old now : Formulas) (numbers : List ℕ) (number n
   }
 
   -- a reached forall is put last
-  pub foralls_reached : (forall : ShapeForall) (after : Formulas) → ReachesForall formula n → slice_get formula.foralls n ≡ Some forall → after ≡ with_foralls (table_forall (length now.foralls) forall ∷ []) now → number ≡ length now.foralls → ForallsSoFar formula old after (numbers ++ number ∷ []) (n + 1)
+  pub foralls_reached : (forall : DraftForall) (after : Formulas) → ReachesForall formula n → slice_get formula.foralls n ≡ Some forall → after ≡ with_foralls (table_forall (length now.foralls) forall ∷ []) now → number ≡ length now.foralls → ForallsSoFar formula old after (numbers ++ number ∷ []) (n + 1)
   foralls_reached forall after reach at after_is number_is =
       let now_foralls : now.foralls ≡ old.foralls ++ so.added = ap (λ (table : Formulas). table.foralls) so.now_is in
       let place : length now.foralls ≡ length old.foralls + length so.added = ap length now_foralls ∙ length-append old.foralls so.added in

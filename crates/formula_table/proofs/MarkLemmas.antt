@@ -4,15 +4,15 @@ use Rattle.std.proofs.lemmas.Bool.{cases_lt}
 use Rattle.std.proofs.lemmas.List.{length-replicate}
 use Rattle.std.proofs.lemmas.Option.{none-some, same_Some, slice_get_within, slice_get-get_or}
 use Rattle.std.proofs.lemmas.List.Elements.{All-contains, Contains-push_cases, Contains-append_left, Contains-push}
-use Rattle.formula_shape.specs.declared.shape_row.ShapeRow.{ShapeRow}
-use Rattle.formula_shape.specs.declared.shape_node.ShapeNode.{ShapeNode}
-use Rattle.formula_shape.specs.declared.shape_forall.ShapeForall.{ShapeForall}
-use Rattle.formula_shape.specs.ShapeRow.{args_of}
-use Rattle.formula_shape.specs.ShapeNode.{rows_of, parts_of}
-use Rattle.formula_shape.specs.Reach.{ReachesNode, ReachesRow}
-use Rattle.formula_shape.specs.Reach.ReachesNode.{itself, part_of_it}
-use Rattle.formula_shape.specs.Reach.ReachesRow.{named, argument}
-use Rattle.formula_shape.specs.Draft.{AreLawful}
+use Rattle.formula_draft.specs.declared.draft_row.DraftRow.{DraftRow}
+use Rattle.formula_draft.specs.declared.draft_node.DraftNode.{DraftNode}
+use Rattle.formula_draft.specs.declared.draft_forall.DraftForall.{DraftForall}
+use Rattle.formula_draft.specs.DraftRow.{args_of}
+use Rattle.formula_draft.specs.DraftNode.{rows_of, parts_of}
+use Rattle.formula_draft.specs.Reach.{ReachesNode, ReachesRow}
+use Rattle.formula_draft.specs.Reach.ReachesNode.{itself, part_of_it}
+use Rattle.formula_draft.specs.Reach.ReachesRow.{named, argument}
+use Rattle.formula_draft.specs.Draft.{AreLawful}
 use Rattle.formula_table.specs.Marks.{IsMarked, AreMarks, Marks, IsNamed}
 
 -- a place that was marked is marked
@@ -108,14 +108,14 @@ module _ {X : Type 0} (items : List X) (kids : X → List ℕ) (P Seed : ℕ →
     }
 
 -- where all is closed, all that is reached is marked
-pub nodes_marked : (nodes : List ShapeNode) (start : ℕ) (marks : List Bool) → IsClosing nodes parts_of (ReachesNode nodes start) (λ n. n ≡ start) 0 marks → AreMarks (length nodes) (ReachesNode nodes start) marks
+pub nodes_marked : (nodes : List DraftNode) (start : ℕ) (marks : List Bool) → IsClosing nodes parts_of (ReachesNode nodes start) (λ n. n ≡ start) 0 marks → AreMarks (length nodes) (ReachesNode nodes start) marks
 nodes_marked nodes start marks closing = record { len = closing.len; only = closing.only; each = λ n reach. all reach }
   where
     all : {n : ℕ} → ReachesNode nodes start n → IsMarked marks n
     all itself = closing.seeds start refl
     all (part_of_it {n = n} {part = part} {node = node} above at c) = closing.closed n node part (omega arith) (all above) at c
 
-pub rows_marked : (rows : List ShapeRow) (nodes : List ShapeNode) (start : ℕ) (marks : List Bool) → IsClosing rows args_of (ReachesRow rows nodes start) (IsNamed rows_of nodes start) 0 marks → AreMarks (length rows) (ReachesRow rows nodes start) marks
+pub rows_marked : (rows : List DraftRow) (nodes : List DraftNode) (start : ℕ) (marks : List Bool) → IsClosing rows args_of (ReachesRow rows nodes start) (IsNamed rows_of nodes start) 0 marks → AreMarks (length rows) (ReachesRow rows nodes start) marks
 rows_marked rows nodes start marks closing = record { len = closing.len; only = closing.only; each = λ n reach. all reach }
   where
     all : {n : ℕ} → ReachesRow rows nodes start n → IsMarked marks n
@@ -123,14 +123,14 @@ rows_marked rows nodes start marks closing = record { len = closing.len; only = 
     all (argument {n = n} {arg = arg} {row = row} above at c) = closing.closed n row arg (omega arith) (all above) at c
 
 -- what the nodes below a number name is marked
-pub record AreNamed (names : ShapeNode → List ℕ) (nodes : List ShapeNode) (start rows below : ℕ) (marks : List Bool) : Type 0 where
+pub record AreNamed (names : DraftNode → List ℕ) (nodes : List DraftNode) (start rows below : ℕ) (marks : List Bool) : Type 0 where
   pub len : length marks ≡ rows
   pub only : (row : ℕ) → IsMarked marks row → IsNamed names nodes start row
-  pub each : (n row : ℕ) (node : ShapeNode) → n < below → ReachesNode nodes start n → slice_get nodes n ≡ Some node → Contains (names node) row → IsMarked marks row
+  pub each : (n row : ℕ) (node : DraftNode) → n < below → ReachesNode nodes start n → slice_get nodes n ≡ Some node → Contains (names node) row → IsMarked marks row
 
-module _ (names : ShapeNode → List ℕ) (nodes : List ShapeNode) (start rows : ℕ) where
+module _ (names : DraftNode → List ℕ) (nodes : List DraftNode) (start rows : ℕ) where
   -- a reached node has what it names marked
-  pub AreNamed-marked : (n : ℕ) (node : ShapeNode) (old new : List Bool) → ReachesNode nodes start n → slice_get nodes n ≡ Some node → Marks (names node) old new → AreNamed names nodes start rows n old → AreNamed names nodes start rows (n + 1) new
+  pub AreNamed-marked : (n : ℕ) (node : DraftNode) (old new : List Bool) → ReachesNode nodes start n → slice_get nodes n ≡ Some node → Marks (names node) old new → AreNamed names nodes start rows n old → AreNamed names nodes start rows (n + 1) new
   AreNamed-marked n node old new reach at marks are = record {
     len = marks.len ∙ are.len;
     only = λ row is. ⊎_elim (are.only row) (λ c. record { place = n; node = node; reached = reach; stands = at; named = c }) (marks.only row is);
@@ -158,7 +158,7 @@ module _ (names : ShapeNode → List ℕ) (nodes : List ShapeNode) (start rows :
 pub looked_up : (marks : List Bool) (n : ℕ) (b : Bool) → n < length marks → b ≡ get_or marks n b → slice_get marks n ≡ Some b
 looked_up marks n b within is = slice_get-get_or marks n b within ∙ ap Some (sym is)
 
-module _ (rows : List ShapeRow) (nodes : List ShapeNode) (foralls : List ShapeForall) (lawful : AreLawful rows nodes foralls) (start : ℕ) where
+module _ (rows : List DraftRow) (nodes : List DraftNode) (foralls : List DraftForall) (lawful : AreLawful rows nodes foralls) (start : ℕ) where
   -- the node that is marked first
   pub nodes_start : (count : ℕ) (marks : List Bool) → marks ≡ replicate count false → count ≡ length nodes → start < length nodes → IsClosing nodes parts_of (ReachesNode nodes start) (λ n. n ≡ start) count (set marks start true)
   nodes_start count marks are all within =
@@ -167,7 +167,7 @@ module _ (rows : List ShapeRow) (nodes : List ShapeNode) (foralls : List ShapeFo
       (λ n is. ⊎_elim (λ old. absurd (unmarked count n (subst (λ (ms : List Bool). IsMarked ms n) are old))) (λ same. subst (ReachesNode nodes start) (sym same) itself) (marked_cases marks start n is))
       (λ n same. subst (IsMarked (set marks start true)) (sym same) (marked_here marks start (omega (arith, len, length-set marks start true))))
 
-  pub nodes_marked_at : (from n : ℕ) (x : ShapeNode) (old new : List Bool) → from ≡ n + 1 → IsMarked old n → slice_get nodes n ≡ Some x → Marks (parts_of x) old new → IsClosing nodes parts_of (ReachesNode nodes start) (λ n. n ≡ start) from old → IsClosing nodes parts_of (ReachesNode nodes start) (λ n. n ≡ start) n new
+  pub nodes_marked_at : (from n : ℕ) (x : DraftNode) (old new : List Bool) → from ≡ n + 1 → IsMarked old n → slice_get nodes n ≡ Some x → Marks (parts_of x) old new → IsClosing nodes parts_of (ReachesNode nodes start) (λ n. n ≡ start) from old → IsClosing nodes parts_of (ReachesNode nodes start) (λ n. n ≡ start) n new
   nodes_marked_at = closing-marked nodes parts_of (ReachesNode nodes start) (λ n. n ≡ start) (λ n x at. (lawful.nodes_fit n x at).parts_stand) (λ n x kid reach at c. part_of_it reach at c)
 
   pub nodes_unmarked_at : (from n : ℕ) (marks : List Bool) → from ≡ n + 1 → (IsMarked marks n → ⊥) → IsClosing nodes parts_of (ReachesNode nodes start) (λ n. n ≡ start) from marks → IsClosing nodes parts_of (ReachesNode nodes start) (λ n. n ≡ start) n marks
@@ -179,14 +179,14 @@ module _ (rows : List ShapeRow) (nodes : List ShapeNode) (foralls : List ShapeFo
       (λ n is. let name = are.only n is in named name.reached name.stands name.named)
       are.each
 
-  pub rows_marked_at : (from n : ℕ) (x : ShapeRow) (old new : List Bool) → from ≡ n + 1 → IsMarked old n → slice_get rows n ≡ Some x → Marks (args_of x) old new → IsClosing rows args_of (ReachesRow rows nodes start) (IsNamed rows_of nodes start) from old → IsClosing rows args_of (ReachesRow rows nodes start) (IsNamed rows_of nodes start) n new
+  pub rows_marked_at : (from n : ℕ) (x : DraftRow) (old new : List Bool) → from ≡ n + 1 → IsMarked old n → slice_get rows n ≡ Some x → Marks (args_of x) old new → IsClosing rows args_of (ReachesRow rows nodes start) (IsNamed rows_of nodes start) from old → IsClosing rows args_of (ReachesRow rows nodes start) (IsNamed rows_of nodes start) n new
   rows_marked_at = closing-marked rows args_of (ReachesRow rows nodes start) (IsNamed rows_of nodes start) (λ n x at. (lawful.rows_fit n x at).args) (λ n x kid reach at c. argument reach at c)
 
   pub rows_unmarked_at : (from n : ℕ) (marks : List Bool) → from ≡ n + 1 → (IsMarked marks n → ⊥) → IsClosing rows args_of (ReachesRow rows nodes start) (IsNamed rows_of nodes start) from marks → IsClosing rows args_of (ReachesRow rows nodes start) (IsNamed rows_of nodes start) n marks
   rows_unmarked_at = closing-unmarked rows args_of (ReachesRow rows nodes start) (IsNamed rows_of nodes start) (λ n x at. (lawful.rows_fit n x at).args) (λ n x kid reach at c. argument reach at c)
 
 -- where all nodes were passed, exactly what is named is marked
-pub AreNamed-all : (names : ShapeNode → List ℕ) (nodes : List ShapeNode) (start rows below : ℕ) (marks : List Bool) → length nodes ≤ below → AreNamed names nodes start rows below marks → AreMarks rows (IsNamed names nodes start) marks
+pub AreNamed-all : (names : DraftNode → List ℕ) (nodes : List DraftNode) (start rows below : ℕ) (marks : List Bool) → length nodes ≤ below → AreNamed names nodes start rows below marks → AreMarks rows (IsNamed names nodes start) marks
 AreNamed-all names nodes start rows below marks all are = record {
   len = are.len;
   only = are.only;

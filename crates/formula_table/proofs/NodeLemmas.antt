@@ -6,16 +6,16 @@ use Rattle.std.proofs.lemmas.Bool.{cases_lt}
 use Rattle.std.proofs.lemmas.List.{length-append}
 use Rattle.std.proofs.lemmas.List.Elements.{All-weaker}
 use Rattle.std.proofs.lemmas.Option.{none-some, same_Some}
-use Rattle.term_table.specs.ListLaws.{element_at}
-use Rattle.formula_shape.specs.declared.shape_node.ShapeNode.{ShapeNode}
-use Rattle.formula_shape.specs.declared.shape_node.ShapeNode.TheVariants.{Equal, Atom, And, Or, Forall}
-use Rattle.formula_shape.specs.ShapeNode.{parts_of}
-use Rattle.formula_shape.specs.Items.{with_item}
-use Rattle.formula_shape.specs.ItemLaws.{put_cases}
-use Rattle.formula_shape.specs.SameLaws.{found_at, absent}
-use Rattle.formula_shape.specs.Reach.{ReachesNode}
-use Rattle.formula_shape.specs.ReachLaws.{node_stands}
-use Rattle.formula_shape.specs.Draft.{Formula, IsFormula}
+use Rattle.graph_terms.specs.ListLaws.{element_at}
+use Rattle.formula_draft.specs.declared.draft_node.DraftNode.{DraftNode}
+use Rattle.formula_draft.specs.declared.draft_node.DraftNode.TheVariants.{Equal, Atom, And, Or, Forall}
+use Rattle.formula_draft.specs.DraftNode.{parts_of}
+use Rattle.formula_draft.specs.Items.{with_item}
+use Rattle.formula_draft.specs.ItemLaws.{put_cases}
+use Rattle.formula_draft.specs.SameLaws.{found_at, absent}
+use Rattle.formula_draft.specs.Reach.{ReachesNode}
+use Rattle.formula_draft.specs.ReachLaws.{node_stands}
+use Rattle.formula_draft.specs.Draft.{Formula, IsFormula}
 use Rattle.formula_table.specs.declared.node.Node.{Node}
 use Rattle.formula_table.specs.declared.node.Node.TheVariants as entered
 use Rattle.formula_table.specs.declared.table_forall.TableForall.{TableForall}
@@ -62,7 +62,7 @@ grows_both first second third one two = record {
 }
 
 -- what an entered node is, in words of places
-entered_same : (terms foralls numbers : List ℕ) (number : ℕ) (node : ShapeNode) → All (λ part. part < length numbers) (parts_of node) → entered_node terms foralls (numbers ++ number ∷ []) node ≡ entered_node terms foralls numbers node
+entered_same : (terms foralls numbers : List ℕ) (number : ℕ) (node : DraftNode) → All (λ part. part < length numbers) (parts_of node) → entered_node terms foralls (numbers ++ number ∷ []) node ≡ entered_node terms foralls numbers node
 entered_same terms foralls numbers number (Equal positive left right) parts = refl
 entered_same terms foralls numbers number (Atom positive row) parts = refl
 entered_same terms foralls numbers number (And xs) parts = ap (λ (ys : List ℕ). entered.And ys) (map_index-push numbers number xs parts)
@@ -71,16 +71,16 @@ entered_same terms foralls numbers number (Forall index) parts = refl
 
 -- a reached node becomes one node
 pub one_node : (formula : Formula) (terms foralls numbers : List ℕ) (n : ℕ) (x y : Node) → BecomesNode formula terms foralls numbers n x → BecomesNode formula terms foralls numbers n y → x ≡ y
-one_node formula terms foralls numbers n x y bx by = bx.node_is ∙ ap (entered_node terms foralls numbers) (same_Some bx.shape_node by.shape_node (sym bx.stands ∙ by.stands)) ∙ sym by.node_is
+one_node formula terms foralls numbers n x y bx by = bx.node_is ∙ ap (entered_node terms foralls numbers) (same_Some bx.draft_node by.draft_node (sym bx.stands ∙ by.stands)) ∙ sym by.node_is
 
 -- and the same one when later nodes are entered
 pub same_nodes : (formula : Formula) → IsFormula formula → (terms foralls numbers : List ℕ) (number n : ℕ) (x : Node) → n < length numbers + 1 → BecomesNode formula terms foralls numbers n x ↔ BecomesNode formula terms foralls (numbers ++ number ∷ []) n x
 same_nodes formula is terms foralls numbers number n x below = (
-  λ b. record { shape_node = b.shape_node; reached = b.reached; stands = b.stands; node_is = b.node_is ∙ sym (equal b.shape_node b.stands) },
-  λ b. record { shape_node = b.shape_node; reached = b.reached; stands = b.stands; node_is = b.node_is ∙ equal b.shape_node b.stands },
+  λ b. record { draft_node = b.draft_node; reached = b.reached; stands = b.stands; node_is = b.node_is ∙ sym (equal b.draft_node b.stands) },
+  λ b. record { draft_node = b.draft_node; reached = b.reached; stands = b.stands; node_is = b.node_is ∙ equal b.draft_node b.stands },
 )
   where
-    equal : (node : ShapeNode) → slice_get formula.nodes n ≡ Some node → entered_node terms foralls (numbers ++ number ∷ []) node ≡ entered_node terms foralls numbers node
+    equal : (node : DraftNode) → slice_get formula.nodes n ≡ Some node → entered_node terms foralls (numbers ++ number ∷ []) node ≡ entered_node terms foralls numbers node
     equal node at = entered_same terms foralls numbers number node (All-weaker (λ part. part < n) (λ part. part < length numbers) (λ part lower. omega arith) (parts_of node) (is.lawful.nodes_fit n node at).parts_stand)
 
 -- the first nodes were entered
@@ -130,7 +130,7 @@ nodes_next formula is terms foralls old now after numbers number n so step =
           let same : slice_index (numbers ++ number ∷ []) k ≡ number = ap (slice_index (numbers ++ number ∷ [])) last ∙ index-last numbers number in
           let here : ReachesNode formula.nodes formula.root (length numbers) = subst (ReachesNode formula.nodes formula.root) last reach in
           let at = element_at formula.nodes (length numbers) (node_stands formula.rows formula.nodes formula.foralls is.lawful formula.root is.root_stands here) in
-          let bound = item_stands Becomes now.nodes more now.limit number (entered_node terms foralls numbers at.0) (record { shape_node = at.0; reached = here; stands = at.1; node_is = refl }) step.2 in
+          let bound = item_stands Becomes now.nodes more now.limit number (entered_node terms foralls numbers at.0) (record { draft_node = at.0; reached = here; stands = at.1; node_is = refl }) step.2 in
           omega (arith, ap length after_nodes))
           (cases_lt k (length numbers));
     }

@@ -1,12 +1,12 @@
 -- Small drafts, computed.
 use Rattle.std.proofs.Common.{◌≡◌, ℕ, zero, suc, ◌<◌, true, List, [], ◌∷◌, length, slice_get, Some, All, sym, ap, subst, ◌∙◌, arith}
 use Rattle.std.proofs.lemmas.Option.{none-some, same_Some, slice_get_within}
-use Rattle.formula_shape.specs.declared.shape_row.ShapeRow.{ShapeRow}
-use Rattle.formula_shape.specs.declared.shape_row.ShapeRow.TheVariants.{Var, App}
-use Rattle.formula_shape.specs.declared.shape_node.ShapeNode.{ShapeNode}
-use Rattle.formula_shape.specs.declared.shape_node.ShapeNode.TheVariants.{Atom}
-use Rattle.formula_shape.specs.Draft.{Draft, FitsRow, FitsNode, IsClosed, empty_draft, with_row, with_node}
-use Rattle.formula_shape.specs.DraftLaws.{row_stands_at, node_stands_at}
+use Rattle.formula_draft.specs.declared.draft_row.DraftRow.{DraftRow}
+use Rattle.formula_draft.specs.declared.draft_row.DraftRow.TheVariants.{Var, App}
+use Rattle.formula_draft.specs.declared.draft_node.DraftNode.{DraftNode}
+use Rattle.formula_draft.specs.declared.draft_node.DraftNode.TheVariants.{Atom}
+use Rattle.formula_draft.specs.Draft.{Draft, FitsRow, FitsNode, IsClosed, empty_draft, with_row, with_node}
+use Rattle.formula_draft.specs.DraftLaws.{row_stands_at, node_stands_at}
 
 -- no rows or arguments are named
 pub none_named : (P : ℕ → Type 0) → All P []
@@ -21,7 +21,7 @@ pub constant_fits : (rows symbol : ℕ) (args : List ℕ) → args ≡ [] → Fi
 constant_fits rows symbol args none = subst (λ (xs : List ℕ). FitsRow rows (App symbol xs)) (sym none) (record { args = none_named (λ arg. arg < rows); few = omega arith })
 
 -- the atom of a row that was put fits
-pub atom_fits : (row : ShapeRow) (old new : Draft) (n : ℕ) → with_row row old ≡ Some (n, new) → FitsNode (length new.rows) (length new.nodes) (length new.foralls) (Atom true n)
+pub atom_fits : (row : DraftRow) (old new : Draft) (n : ℕ) → with_row row old ≡ Some (n, new) → FitsNode (length new.rows) (length new.nodes) (length new.foralls) (Atom true n)
 atom_fits row old new n put =
     let has = row_stands_at row old new n put in
     let within = slice_get_within has.0 n row has.2.stands in
@@ -33,7 +33,7 @@ atom_fits row old new n put =
     }
 
 -- a node that was put stands
-pub node_within : (node : ShapeNode) (old new : Draft) (n : ℕ) → with_node node old ≡ Some (n, new) → n < length new.nodes
+pub node_within : (node : DraftNode) (old new : Draft) (n : ℕ) → with_node node old ≡ Some (n, new) → n < length new.nodes
 node_within node old new n put =
     let has = node_stands_at node old new n put in
     let within = slice_get_within has.0 n node has.2.stands in
@@ -41,7 +41,7 @@ node_within node old new n put =
     omega (arith, within, nodes)
 
 -- a constant is no variable
-abbrev kind_of : ShapeRow → ℕ
+abbrev kind_of : DraftRow → ℕ
 kind_of (Var index) = 0
 kind_of (App symbol args) = 1
 
@@ -57,7 +57,7 @@ constant_rows args draft new n empty put =
     sym (ap (λ (p : ℕ × Draft). p.1.rows) both)
 
 -- a formula over a constant alone has no variables
-pub constant_closed : (args : List ℕ) (draft new after : Draft) (n root : ℕ) (node : ShapeNode) → draft ≡ empty_draft 4 4 → with_row (App 7 args) draft ≡ Some (n, new) → with_node node new ≡ Some (root, after) → IsClosed after.rows after.nodes root
+pub constant_closed : (args : List ℕ) (draft new after : Draft) (n root : ℕ) (node : DraftNode) → draft ≡ empty_draft 4 4 → with_row (App 7 args) draft ≡ Some (n, new) → with_node node new ≡ Some (root, after) → IsClosed after.rows after.nodes root
 constant_closed args draft new after n root node empty put_row put_node row index reach at =
     let rows : after.rows ≡ new.rows = ap (λ (d : Draft). d.rows) (node_stands_at node new after root put_node).1 in
-    constant_alone args row index (subst (λ (list : List ShapeRow). slice_get list row ≡ Some (Var index)) (rows ∙ constant_rows args draft new n empty put_row) at)
+    constant_alone args row index (subst (λ (list : List DraftRow). slice_get list row ≡ Some (Var index)) (rows ∙ constant_rows args draft new n empty put_row) at)

@@ -1,14 +1,14 @@
 -- What is reached becomes something.
 use Rattle.std.proofs.Common.{◌≡◌, ℕ, ◌<◌, List, [], ◌∷◌, length, slice_get, Some, refl, arith}
 use Rattle.std.proofs.lemmas.List.Elements.{All-contains}
-use Rattle.term_table.specs.declared.term_row.TermRow.{TermRow}
-use Rattle.term_table.specs.ListLaws.{element_at}
-use Rattle.formula_shape.specs.declared.shape_row.ShapeRow.{ShapeRow}
-use Rattle.formula_shape.specs.declared.shape_row.ShapeRow.TheVariants.{Var, App}
-use Rattle.formula_shape.specs.declared.shape_node.ShapeNode.TheVariants.{Forall}
-use Rattle.formula_shape.specs.Reach.{ReachesNode, ReachesRow}
-use Rattle.formula_shape.specs.ReachLaws.{row_stands, node_stands}
-use Rattle.formula_shape.specs.Draft.{Formula, IsFormula}
+use Rattle.graph_terms.specs.declared.term_row.TermRow.{TermRow}
+use Rattle.graph_terms.specs.ListLaws.{element_at}
+use Rattle.formula_draft.specs.declared.draft_row.DraftRow.{DraftRow}
+use Rattle.formula_draft.specs.declared.draft_row.DraftRow.TheVariants.{Var, App}
+use Rattle.formula_draft.specs.declared.draft_node.DraftNode.TheVariants.{Forall}
+use Rattle.formula_draft.specs.Reach.{ReachesNode, ReachesRow}
+use Rattle.formula_draft.specs.ReachLaws.{row_stands, node_stands}
+use Rattle.formula_draft.specs.Draft.{Formula, IsFormula}
 use Rattle.formula_table.specs.declared.node.Node.{Node}
 use Rattle.formula_table.specs.Entry.{BecomesRow, BecomesNode, ReachesForall, entered_row, entered_node}
 
@@ -19,7 +19,7 @@ module _ (formula : Formula) (is : IsFormula formula) where
       let at = element_at formula.rows n (row_stands formula.rows formula.nodes formula.foralls is.lawful formula.root is.root_stands reach) in
       by at.0 at.1
     where
-      by : (row : ShapeRow) → slice_get formula.rows n ≡ Some row → (x : TermRow) × BecomesRow formula terms n x
+      by : (row : DraftRow) → slice_get formula.rows n ≡ Some row → (x : TermRow) × BecomesRow formula terms n x
       by (Var index) at = absurd (is.closed n index reach at)
       by (App symbol args) at = (entered_row terms symbol args, record { symbol = symbol; args = args; reached = reach; stands = at; row_is = refl })
 
@@ -27,7 +27,7 @@ module _ (formula : Formula) (is : IsFormula formula) where
   pub node_becomes : (terms foralls numbers : List ℕ) (n : ℕ) → ReachesNode formula.nodes formula.root n → (x : Node) × BecomesNode formula terms foralls numbers n x
   node_becomes terms foralls numbers n reach =
       let at = element_at formula.nodes n (node_stands formula.rows formula.nodes formula.foralls is.lawful formula.root is.root_stands reach) in
-      (entered_node terms foralls numbers at.0, record { shape_node = at.0; reached = reach; stands = at.1; node_is = refl })
+      (entered_node terms foralls numbers at.0, record { draft_node = at.0; reached = reach; stands = at.1; node_is = refl })
 
   -- a reached forall stands
   pub forall_stands : (index : ℕ) → ReachesForall formula index → index < length formula.foralls

@@ -1,6 +1,6 @@
--- Why a shape was not entered.
-use Rattle.term_table.specs.declared.table_fault.TableFault.{TableFault}
-use Rattle.term_table.specs.declared.table_fault.TableFault.TheVariants.{Full, Memory}
+-- Why a formula was not entered.
+use Rattle.graph_terms.specs.declared.table_fault.TableFault.{TableFault}
+use Rattle.graph_terms.specs.declared.table_fault.TableFault.TheVariants.{Full, Memory}
 use Rattle.formula_table.specs.declared.enter_fault.EnterFault.{EnterFault}
 use Rattle.formula_table.specs.declared.enter_fault.EnterFault.TheVariants as entering
 

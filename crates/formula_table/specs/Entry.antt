@@ -1,16 +1,16 @@
 -- How a formula is entered: its reached rows become terms, its reached foralls get the next numbers, and its reached nodes
 -- become nodes of the table, each in the formula's order.
 use Rattle.std.specs.Prelude.{◌≡◌, ℕ, ◌+◌, ◌<◌, ◌⊎◌, min, max, List, [], ◌∷◌, ◌++◌, length, map, slice_get, slice_index, Some}
-use Rattle.term_table.specs.declared.term_row.TermRow.{TermRow}
-use Rattle.term_table.specs.declared.trigger.Trigger.{Trigger}
-use Rattle.term_table.specs.Questions.{AreAll}
-use Rattle.term_table.specs.Terms.{term_row}
-use Rattle.formula_shape.specs.declared.shape_row.ShapeRow.TheVariants.{App}
-use Rattle.formula_shape.specs.declared.shape_node.ShapeNode.{ShapeNode}
-use Rattle.formula_shape.specs.declared.shape_node.ShapeNode.TheVariants.{Equal, Atom, And, Or, Forall}
-use Rattle.formula_shape.specs.declared.shape_forall.ShapeForall.{ShapeForall}
-use Rattle.formula_shape.specs.Reach.{ReachesNode, ReachesRow}
-use Rattle.formula_shape.specs.Draft.{Formula}
+use Rattle.graph_terms.specs.declared.term_row.TermRow.{TermRow}
+use Rattle.graph_trigger.specs.declared.trigger.Trigger.{Trigger}
+use Rattle.graph_meaning.specs.Questions.{AreAll}
+use Rattle.graph_terms.specs.Terms.{term_row}
+use Rattle.formula_draft.specs.declared.draft_row.DraftRow.TheVariants.{App}
+use Rattle.formula_draft.specs.declared.draft_node.DraftNode.{DraftNode}
+use Rattle.formula_draft.specs.declared.draft_node.DraftNode.TheVariants.{Equal, Atom, And, Or, Forall}
+use Rattle.formula_draft.specs.declared.draft_forall.DraftForall.{DraftForall}
+use Rattle.formula_draft.specs.Reach.{ReachesNode, ReachesRow}
+use Rattle.formula_draft.specs.Draft.{Formula}
 use Rattle.formula_table.specs.declared.node.Node.{Node}
 use Rattle.formula_table.specs.declared.node.Node.TheVariants as entered
 use Rattle.formula_table.specs.declared.table_forall.TableForall.{TableForall}
@@ -44,8 +44,8 @@ abbrev pub numbered : ℕ → ℕ → List Trigger → List Trigger
 numbered forall place [] = []
 numbered forall place (trigger ∷ triggers) = placed forall place trigger ∷ numbered forall (place + 1) triggers
 
--- a forall of a shape under its number in the table
-abbrev pub table_forall : ℕ → ShapeForall → TableForall
+-- a forall of a formula under its number in the table
+abbrev pub table_forall : ℕ → DraftForall → TableForall
 table_forall number new = record { variables = new.variables; triggers = numbered number 0 new.triggers }
 
 -- a reached node is the forall with this index
@@ -59,10 +59,10 @@ pub record EntersForalls (formula : Formula) (old added : List TableForall) (num
   pub reached : List ℕ
   pub all : AreAll (λ index. (index < length numbers) × ReachesForall formula index) reached
   pub count : length reached ≡ length added
-  pub each : (k index : ℕ) (forall : ShapeForall) → slice_get reached k ≡ Some index → slice_get formula.foralls index ≡ Some forall → (slice_index numbers index ≡ length old + k) × (slice_get added k ≡ Some (table_forall (length old + k) forall))
+  pub each : (k index : ℕ) (forall : DraftForall) → slice_get reached k ≡ Some index → slice_get formula.foralls index ≡ Some forall → (slice_index numbers index ≡ length old + k) × (slice_get added k ≡ Some (table_forall (length old + k) forall))
 
 -- the node over terms, numbers of foralls and earlier nodes; the terms of an equation in ascending order
-abbrev pub entered_node : List ℕ → List ℕ → List ℕ → ShapeNode → Node
+abbrev pub entered_node : List ℕ → List ℕ → List ℕ → DraftNode → Node
 entered_node terms foralls numbers (Equal positive left right) = entered.Equal positive (min (slice_index terms left) (slice_index terms right)) (max (slice_index terms left) (slice_index terms right))
 entered_node terms foralls numbers (Atom positive row) = entered.Atom positive (slice_index terms row)
 entered_node terms foralls numbers (And parts) = entered.And (map (slice_index numbers) parts)
@@ -71,10 +71,10 @@ entered_node terms foralls numbers (Forall index) = entered.Forall (slice_index 
 
 -- the node with this number is reached, and is this one in the table
 pub record BecomesNode (formula : Formula) (terms foralls numbers : List ℕ) (n : ℕ) (node : Node) : Type 0 where
-  pub shape_node : ShapeNode
+  pub draft_node : DraftNode
   pub reached : ReachesNode formula.nodes formula.root n
-  pub stands : slice_get formula.nodes n ≡ Some shape_node
-  pub node_is : node ≡ entered_node terms foralls numbers shape_node
+  pub stands : slice_get formula.nodes n ≡ Some draft_node
+  pub node_is : node ≡ entered_node terms foralls numbers draft_node
 
 -- the first nodes were entered: the nodes that were added, and the number of each
 abbrev pub EntersNodes : Formula → List ℕ → List ℕ → List Node → ℕ → List Node → List ℕ → Type 0

@@ -1,10 +1,10 @@
 -- What the steps of an entry keep and say.
 use Rattle.std.specs.Prelude.{◌≡◌, ℕ, ◌<◌, ◌⊎◌, Bool, true, false, List, [], ◌∷◌, ◌++◌, length, slice_get, slice_index, Some}
-use Rattle.term_table.specs.declared.term_row.TermRow.{TermRow}
-use Rattle.term_table.specs.Terms.{IsAbsent}
-use Rattle.formula_shape.specs.declared.shape_forall.ShapeForall.{ShapeForall}
-use Rattle.formula_shape.specs.Reach.{ReachesNode, ReachesRow}
-use Rattle.formula_shape.specs.Draft.{Formula}
+use Rattle.graph_terms.specs.declared.term_row.TermRow.{TermRow}
+use Rattle.graph_terms.specs.Terms.{IsAbsent}
+use Rattle.formula_draft.specs.declared.draft_forall.DraftForall.{DraftForall}
+use Rattle.formula_draft.specs.Reach.{ReachesNode, ReachesRow}
+use Rattle.formula_draft.specs.Draft.{Formula}
 use Rattle.formula_table.specs.declared.node.Node.{Node}
 use Rattle.formula_table.specs.declared.table_forall.TableForall.{TableForall}
 use Rattle.formula_table.specs.declared.enter_fault.EnterFault.{EnterFault}
@@ -42,7 +42,7 @@ StopsRows grown refused formula rows limit Memory = LacksMemory grown refused fo
 -- a reached forall was put last under its number, and another left the table
 abbrev pub ForallGrows : Formula → ℕ → Bool → Formulas → Formulas → ℕ → Type 0
 ForallGrows formula index false old new number = new ≡ old
-ForallGrows formula index true old new number = (forall : ShapeForall) × (slice_get formula.foralls index ≡ Some forall) × (new ≡ with_foralls (table_forall (length old.foralls) forall ∷ []) old) × (number ≡ length old.foralls)
+ForallGrows formula index true old new number = (forall : DraftForall) × (slice_get formula.foralls index ≡ Some forall) × (new ≡ with_foralls (table_forall (length old.foralls) forall ∷ []) old) × (number ≡ length old.foralls)
 
 -- the table grew by the foralls of the formula, with these numbers
 pub record ForallsEntered (formula : Formula) (old new : Formulas) (numbers : List ℕ) : Type 0 where

@@ -5,20 +5,20 @@ use Rattle.std.proofs.lemmas.Bool.{cases_lt}
 use Rattle.std.proofs.lemmas.List.{same_lists}
 use Rattle.std.proofs.lemmas.List.Elements.{All-contains, Contains-get_or, Contains-append_right}
 use Rattle.std.proofs.lemmas.Option.{slice_get_within, get_or_from_slice_get}
-use Rattle.term_table.specs.declared.term_row.TermRow.{TermRow}
-use Rattle.term_table.specs.Questions.{AreAll}
-use Rattle.term_table.specs.Terms.{term_row, IsTable}
-use Rattle.term_table.specs.ListLaws.{element_at, place_from_Contains, Contains-slice_get}
-use Rattle.term_table.specs.OneListLaws.{one_list}
-use Rattle.formula_shape.specs.declared.shape_row.ShapeRow.TheVariants.{App}
-use Rattle.formula_shape.specs.declared.shape_node.ShapeNode.{ShapeNode}
-use Rattle.formula_shape.specs.declared.shape_node.ShapeNode.TheVariants.{Equal, Atom, And, Or, Forall}
-use Rattle.formula_shape.specs.ShapeNode.{parts_of}
-use Rattle.formula_shape.specs.Reach.{ReachesNode, ReachesRow}
-use Rattle.formula_shape.specs.Reach.ReachesNode.{itself, part_of_it}
-use Rattle.formula_shape.specs.Reach.ReachesRow.{named, argument}
-use Rattle.formula_shape.specs.ReachLaws.{row_stands}
-use Rattle.formula_shape.specs.Draft.{Formula, IsFormula}
+use Rattle.graph_terms.specs.declared.term_row.TermRow.{TermRow}
+use Rattle.graph_meaning.specs.Questions.{AreAll}
+use Rattle.graph_terms.specs.Terms.{term_row, IsTable}
+use Rattle.graph_terms.specs.ListLaws.{element_at, place_from_Contains, Contains-slice_get}
+use Rattle.graph_meaning.specs.OneListLaws.{one_list}
+use Rattle.formula_draft.specs.declared.draft_row.DraftRow.TheVariants.{App}
+use Rattle.formula_draft.specs.declared.draft_node.DraftNode.{DraftNode}
+use Rattle.formula_draft.specs.declared.draft_node.DraftNode.TheVariants.{Equal, Atom, And, Or, Forall}
+use Rattle.formula_draft.specs.DraftNode.{parts_of}
+use Rattle.formula_draft.specs.Reach.{ReachesNode, ReachesRow}
+use Rattle.formula_draft.specs.Reach.ReachesNode.{itself, part_of_it}
+use Rattle.formula_draft.specs.Reach.ReachesRow.{named, argument}
+use Rattle.formula_draft.specs.ReachLaws.{row_stands}
+use Rattle.formula_draft.specs.Draft.{Formula, IsFormula}
 use Rattle.formula_table.specs.declared.node.Node.{Node}
 use Rattle.formula_table.specs.declared.node.Node.TheVariants as entered
 use Rattle.formula_table.specs.declared.table_forall.TableForall.{TableForall}
@@ -113,7 +113,7 @@ module _ (formula : Formula) (is : IsFormula formula) where
 
   module _ (terms other_terms foralls other_foralls : List ℕ) (same_terms : (n : ℕ) → ReachesRow formula.rows formula.nodes formula.root n → slice_index terms n ≡ slice_index other_terms n) (same_foralls : (index : ℕ) → ReachesForall formula index → slice_index foralls index ≡ slice_index other_foralls index) where
     -- a node becomes the same over terms, foralls and numbers that agree
-    entered_same : (numbers others : List ℕ) (n : ℕ) (node : ShapeNode) → ReachesNode formula.nodes formula.root n → slice_get formula.nodes n ≡ Some node → ((part : ℕ) → Contains (parts_of node) part → slice_index numbers part ≡ slice_index others part) → entered_node terms foralls numbers node ≡ entered_node other_terms other_foralls others node
+    entered_same : (numbers others : List ℕ) (n : ℕ) (node : DraftNode) → ReachesNode formula.nodes formula.root n → slice_get formula.nodes n ≡ Some node → ((part : ℕ) → Contains (parts_of node) part → slice_index numbers part ≡ slice_index others part) → entered_node terms foralls numbers node ≡ entered_node other_terms other_foralls others node
     entered_same numbers others n (Equal positive left right) reach at parts =
         let first = same_terms left (named reach at (0, omega arith, refl)) in
         let second = same_terms right (named reach at (1, omega arith, refl)) in
@@ -125,11 +125,11 @@ module _ (formula : Formula) (is : IsFormula formula) where
 
     node_step : (numbers others : List ℕ) (n : ℕ) → ((m : ℕ) (x : Node) → m < n → BecomesNode formula terms foralls numbers m x → slice_index numbers m ≡ slice_index others m) → (x : Node) → BecomesNode formula terms foralls numbers n x ↔ BecomesNode formula other_terms other_foralls others n x
     node_step numbers others n agree x = (
-      λ b. record { shape_node = b.shape_node; reached = b.reached; stands = b.stands; node_is = b.node_is ∙ equal b.shape_node b.reached b.stands },
-      λ b. record { shape_node = b.shape_node; reached = b.reached; stands = b.stands; node_is = b.node_is ∙ sym (equal b.shape_node b.reached b.stands) },
+      λ b. record { draft_node = b.draft_node; reached = b.reached; stands = b.stands; node_is = b.node_is ∙ equal b.draft_node b.reached b.stands },
+      λ b. record { draft_node = b.draft_node; reached = b.reached; stands = b.stands; node_is = b.node_is ∙ sym (equal b.draft_node b.reached b.stands) },
     )
       where
-        equal : (node : ShapeNode) → ReachesNode formula.nodes formula.root n → slice_get formula.nodes n ≡ Some node → entered_node terms foralls numbers node ≡ entered_node other_terms other_foralls others node
+        equal : (node : DraftNode) → ReachesNode formula.nodes formula.root n → slice_get formula.nodes n ≡ Some node → entered_node terms foralls numbers node ≡ entered_node other_terms other_foralls others node
         equal node reach at = entered_same numbers others n node reach at (λ part c.
             let lower : part < n = All-contains (λ p. p < n) (parts_of node) part (is.lawful.nodes_fit n node at).parts_stand c in
             let becomes = node_becomes formula is terms foralls numbers part (part_of_it reach at c) in
@@ -150,7 +150,7 @@ module _ (formula : Formula) (is : IsFormula formula) where
       -- where there is no room for a node, not all nodes are entered
       pub full_nodes_not_grown : (more : List Node) (number : ℕ) → FillsNodes formula terms foralls old → NodesGrow formula other_terms other_foralls old more number → ⊥
       full_nodes_not_grown more number fills grows =
-          let within = slice_get_within formula.nodes (length fills.numbers) fills.full.1.shape_node fills.full.1.stands in
+          let within = slice_get_within formula.nodes (length fills.numbers) fills.full.1.draft_node fills.full.1.stands in
           full_stops (BecomesNode formula terms foralls fills.numbers) (BecomesNode formula other_terms other_foralls grows.numbers) old.nodes old.limit fills.numbers grows.numbers table.once (node_step fills.numbers grows.numbers) (length fills.numbers) (length grows.numbers) fills.added more fills.enters fills.full (omega (arith, within, grows.all)) grows.enters
 
 -- the same terms were added in both ways

@@ -1,12 +1,12 @@
--- A forall of a shape becomes a forall of the table.
+-- A forall of a formula becomes a forall of the table.
 use Rattle.std.proofs.Common.{◌≡◌, ℕ, zero, suc, ◌+◌, ◌≤◌, List, [], ◌∷◌, slice_get, Some, All, refl, sym, ap, subst, ◌∙◌, arith}
 use Rattle.std.proofs.lemmas.Option.{none-some, same_Some}
-use Rattle.term_table.specs.declared.trigger.Trigger.{Trigger}
-use Rattle.term_table.specs.Trigger.{IsValid, Occurs}
-use Rattle.term_table.specs.Trigger.Occurs.{at_root, below}
-use Rattle.term_table.specs.ListLaws.{All-slice_get}
-use Rattle.formula_shape.specs.declared.shape_forall.ShapeForall.{ShapeForall}
-use Rattle.formula_shape.specs.Draft.{FitsTrigger}
+use Rattle.graph_trigger.specs.declared.trigger.Trigger.{Trigger}
+use Rattle.graph_trigger.specs.Trigger.{IsValid, Occurs}
+use Rattle.graph_trigger.specs.Trigger.Occurs.{at_root, below}
+use Rattle.graph_terms.specs.ListLaws.{All-slice_get}
+use Rattle.formula_draft.specs.declared.draft_forall.DraftForall.{DraftForall}
+use Rattle.formula_draft.specs.Draft.{FitsTrigger}
 use Rattle.formula_table.specs.Formulas.{IsForallOf, IsTriggerOf}
 use Rattle.formula_table.specs.Entry.{placed, numbered, table_forall}
 
@@ -38,8 +38,8 @@ valid_placed forall place trigger valid = record {
   occur = valid.occur;
 }
 
--- a forall of a shape is one of the table
-pub IsForallOf-table_forall : (number : ℕ) (new : ShapeForall) → new.variables ≤ 32 → All (FitsTrigger new.variables) new.triggers → IsForallOf number (table_forall number new)
+-- a forall of a formula is one of the table
+pub IsForallOf-table_forall : (number : ℕ) (new : DraftForall) → new.variables ≤ 32 → All (FitsTrigger new.variables) new.triggers → IsForallOf number (table_forall number new)
 IsForallOf-table_forall number new few fit = record {
   few_variables = few;
   triggers = λ place trigger at.

@@ -1,13 +1,13 @@
 -- The table of formulas.
 use Rattle.std.specs.Prelude.{◌≡◌, ℕ, ◌<◌, ◌≤◌, Bool, List, [], ◌++◌, length, slice_get, take, Option, Some, option_map, All}
-use Rattle.term_table.specs.declared.trigger.Trigger.{Trigger}
-use Rattle.term_table.specs.Trigger.{IsValid}
+use Rattle.graph_trigger.specs.declared.trigger.Trigger.{Trigger}
+use Rattle.graph_trigger.specs.Trigger.{IsValid}
 use Rattle.formula_table.specs.declared.node.Node.{Node}
 use Rattle.formula_table.specs.declared.node.Node.TheVariants.{Equal, Atom, And, Or, Forall}
 use Rattle.formula_table.specs.declared.table_forall.TableForall.{TableForall}
 use Rattle.formula_table.specs.declared.enter_fault.EnterFault.{EnterFault}
 use Rattle.formula_table.specs.declared.enter_fault.EnterFault.TheVariants.{TermsFull, NodesFull, Memory}
-use Rattle.formula_shape.specs.Items.{with_item}
+use Rattle.formula_draft.specs.Items.{with_item}
 use Rattle.formula_table.specs.InOrder.{StandsNowhere}
 use Rattle.formula_table.specs.Node.{children_of, terms_in, same_entered}
 

@@ -1,7 +1,7 @@
 -- Marks, one for each number below a length.
 use Rattle.std.specs.Prelude.{◌≡◌, ℕ, ◌⊎◌, Bool, true, List, length, slice_get, Some, Contains}
-use Rattle.formula_shape.specs.declared.shape_node.ShapeNode.{ShapeNode}
-use Rattle.formula_shape.specs.Reach.{ReachesNode}
+use Rattle.formula_draft.specs.declared.draft_node.DraftNode.{DraftNode}
+use Rattle.formula_draft.specs.Reach.{ReachesNode}
 
 -- the number is marked
 abbrev pub IsMarked : List Bool → ℕ → Type 0
@@ -21,9 +21,9 @@ pub record Marks (places : List ℕ) (old new : List Bool) : Type 0 where
   pub only : (n : ℕ) → IsMarked new n → IsMarked old n ⊎ Contains places n
 
 -- a reached node names the number
-pub record IsNamed (names : ShapeNode → List ℕ) (nodes : List ShapeNode) (start number : ℕ) : Type 0 where
+pub record IsNamed (names : DraftNode → List ℕ) (nodes : List DraftNode) (start number : ℕ) : Type 0 where
   pub place : ℕ
-  pub node : ShapeNode
+  pub node : DraftNode
   pub reached : ReachesNode nodes start place
   pub stands : slice_get nodes place ≡ Some node
   pub named : Contains (names node) number

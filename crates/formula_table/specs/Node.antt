@@ -2,7 +2,7 @@
 use Rattle.std.specs.Prelude.{ℕ, Bool, false, ◌&&◌, nat_eq, bytes_eq, List, [], ◌∷◌}
 use Rattle.formula_table.specs.declared.node.Node.{Node}
 use Rattle.formula_table.specs.declared.node.Node.TheVariants.{Equal, Atom, And, Or, Forall}
-use Rattle.formula_shape.specs.ShapeNode.{sign_of, same_sign}
+use Rattle.formula_draft.specs.DraftNode.{sign_of, same_sign}
 
 -- the nodes that a node names
 abbrev pub children_of : Node → List ℕ

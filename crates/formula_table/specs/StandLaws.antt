@@ -4,20 +4,20 @@ use Rattle.std.specs.Prelude.{slice_index}
 use Rattle.std.proofs.lemmas.List.{length-append, length-map}
 use Rattle.std.proofs.lemmas.List.Elements.{All-nil, All-cons, All-map, All-weaker, All-contains, All-contains_itself}
 use Rattle.std.proofs.lemmas.Option.{same_Some, slice_get_within, get_or_from_slice_get}
-use Rattle.term_table.specs.declared.term_row.TermRow.{TermRow}
-use Rattle.term_table.specs.Terms.{IsTable}
-use Rattle.term_table.specs.TableLaws.{IsTable-push}
-use Rattle.term_table.specs.ListLaws.{element_at, place_from_Contains, Contains-slice_get}
-use Rattle.formula_shape.specs.declared.shape_row.ShapeRow.TheVariants.{App}
-use Rattle.formula_shape.specs.declared.shape_node.ShapeNode.{ShapeNode}
-use Rattle.formula_shape.specs.declared.shape_forall.ShapeForall.{ShapeForall}
-use Rattle.formula_shape.specs.declared.shape_node.ShapeNode.TheVariants.{Equal, Atom, And, Or, Forall}
-use Rattle.formula_shape.specs.ShapeNode.{parts_of}
-use Rattle.formula_shape.specs.Reach.{ReachesNode, ReachesRow}
-use Rattle.formula_shape.specs.Reach.ReachesNode.{itself, part_of_it}
-use Rattle.formula_shape.specs.Reach.ReachesRow.{named, argument}
-use Rattle.formula_shape.specs.ReachLaws.{row_stands}
-use Rattle.formula_shape.specs.Draft.{Formula, IsFormula}
+use Rattle.graph_terms.specs.declared.term_row.TermRow.{TermRow}
+use Rattle.graph_terms.specs.Terms.{IsTable}
+use Rattle.graph_terms.specs.TableLaws.{IsTable-push}
+use Rattle.graph_terms.specs.ListLaws.{element_at, place_from_Contains, Contains-slice_get}
+use Rattle.formula_draft.specs.declared.draft_row.DraftRow.TheVariants.{App}
+use Rattle.formula_draft.specs.declared.draft_node.DraftNode.{DraftNode}
+use Rattle.formula_draft.specs.declared.draft_forall.DraftForall.{DraftForall}
+use Rattle.formula_draft.specs.declared.draft_node.DraftNode.TheVariants.{Equal, Atom, And, Or, Forall}
+use Rattle.formula_draft.specs.DraftNode.{parts_of}
+use Rattle.formula_draft.specs.Reach.{ReachesNode, ReachesRow}
+use Rattle.formula_draft.specs.Reach.ReachesNode.{itself, part_of_it}
+use Rattle.formula_draft.specs.Reach.ReachesRow.{named, argument}
+use Rattle.formula_draft.specs.ReachLaws.{row_stands}
+use Rattle.formula_draft.specs.Draft.{Formula, IsFormula}
 use Rattle.formula_table.specs.declared.node.Node.{Node}
 use Rattle.formula_table.specs.declared.table_forall.TableForall.{TableForall}
 use Rattle.formula_table.specs.Node.{terms_in}
@@ -30,7 +30,7 @@ use Rattle.formula_table.specs.InOrderLaws.{PutLast, none_added, last_step}
 use Rattle.formula_table.specs.Entry.{BecomesRow, BecomesNode, ReachesForall, RowsGrow, ForallsGrow, TableGrows, FillsTerms, LacksMemory, LacksNodes, Enters, table_forall, entered_node}
 
 -- the node that a reached node becomes fits a table in which its parts and its forall stand
-pub fits_entered : (formula : Formula) (terms foralls numbers : List ℕ) (table : Formulas) (n : ℕ) (node : ShapeNode) → slice_get formula.nodes n ≡ Some node → ReachesNode formula.nodes formula.root n → ((part : ℕ) → Contains (parts_of node) part → slice_index numbers part < length table.nodes) → ((index : ℕ) → ReachesForall formula index → slice_index foralls index < length table.foralls) → FitsTable table (entered_node terms foralls numbers node)
+pub fits_entered : (formula : Formula) (terms foralls numbers : List ℕ) (table : Formulas) (n : ℕ) (node : DraftNode) → slice_get formula.nodes n ≡ Some node → ReachesNode formula.nodes formula.root n → ((part : ℕ) → Contains (parts_of node) part → slice_index numbers part < length table.nodes) → ((index : ℕ) → ReachesForall formula index → slice_index foralls index < length table.foralls) → FitsTable table (entered_node terms foralls numbers node)
 fits_entered formula terms foralls numbers table n (Equal positive left right) at reach parts stand = omega arith
 fits_entered formula terms foralls numbers table n (Atom positive row) at reach parts stand = tt
 fits_entered formula terms foralls numbers table n (And xs) at reach parts stand = All-map (λ part. part < length table.nodes) (slice_index numbers) xs (All-weaker (Contains xs) (λ x. slice_index numbers x < length table.nodes) parts xs (All-contains_itself xs))
@@ -70,27 +70,27 @@ module _ (formula : Formula) (is : IsFormula formula) where
         (last_step (BecomesRow formula terms) rows limit terms n added enters)
 
   module _ (old : Formulas) (added : List TableForall) (numbers : List ℕ) (grow : ForallsGrow formula old.foralls added numbers) where
-    forall_fits : (k index : ℕ) (shape : ShapeForall) (forall : TableForall) → slice_get grow.enters.reached k ≡ Some index → slice_get formula.foralls index ≡ Some shape → slice_get added k ≡ Some forall → IsForallOf (length old.foralls + k) forall
-    forall_fits k index shape forall thing stands at =
-        let fits = is.lawful.foralls_fit index shape stands in
-        let has = grow.enters.each k index shape thing stands in
-        subst (IsForallOf (length old.foralls + k)) (same_Some (table_forall (length old.foralls + k) shape) forall (sym has.1 ∙ at)) (IsForallOf-table_forall (length old.foralls + k) shape fits.few_variables fits.triggers_fit)
+    forall_fits : (k index : ℕ) (drafted : DraftForall) (forall : TableForall) → slice_get grow.enters.reached k ≡ Some index → slice_get formula.foralls index ≡ Some drafted → slice_get added k ≡ Some forall → IsForallOf (length old.foralls + k) forall
+    forall_fits k index drafted forall thing stands at =
+        let fits = is.lawful.foralls_fit index drafted stands in
+        let has = grow.enters.each k index drafted thing stands in
+        subst (IsForallOf (length old.foralls + k)) (same_Some (table_forall (length old.foralls + k) drafted) forall (sym has.1 ∙ at)) (IsForallOf-table_forall (length old.foralls + k) drafted fits.few_variables fits.triggers_fit)
 
     -- foralls that were entered leave a table
     pub foralls_table : IsFormulaTable old → IsFormulaTable (with_foralls added old)
     foralls_table table = IsFormulaTable-foralls old table added (λ k forall at.
         let thing = element_at grow.enters.reached k (let within = slice_get_within added k forall at in omega (arith, within, grow.enters.count)) in
         let reached = (grow.enters.all.exact thing.0).0 (Contains-slice_get grow.enters.reached k thing.0 thing.1) in
-        let shape = element_at formula.foralls thing.0 (omega (arith, reached.0, grow.all)) in
-        forall_fits k thing.0 shape.0 forall thing.1 shape.1 at)
+        let drafted = element_at formula.foralls thing.0 (omega (arith, reached.0, grow.all)) in
+        forall_fits k thing.0 drafted.0 forall thing.1 drafted.1 at)
 
     -- and their numbers stand in it
     pub foralls_below : (index : ℕ) → ReachesForall formula index → slice_index numbers index < length (old.foralls ++ added)
     foralls_below index reach =
         let stands = forall_stands formula is index reach in
         let place = place_from_Contains grow.enters.reached index ((grow.enters.all.exact index).1 (omega (arith, stands, grow.all), reach)) in
-        let shape = element_at formula.foralls index stands in
-        let has = grow.enters.each place.0 index shape.0 place.1 shape.1 in
+        let drafted = element_at formula.foralls index stands in
+        let has = grow.enters.each place.0 index drafted.0 place.1 drafted.1 in
         let within = slice_get_within grow.enters.reached place.0 index place.1 in
         omega (arith, has.0, within, grow.enters.count, length-append old.foralls added)
 
@@ -102,9 +102,9 @@ module _ (formula : Formula) (is : IsFormula formula) where
     fits_put n added put =
         let becomes = put.becomes in
         subst (FitsTable (with_nodes put.front)) (sym becomes.node_is)
-        (fits_entered formula terms foralls numbers (with_nodes put.front) n becomes.shape_node becomes.stands becomes.reached
+        (fits_entered formula terms foralls numbers (with_nodes put.front) n becomes.draft_node becomes.stands becomes.reached
         (λ part c.
-        let lower : part < n = All-contains (λ p. p < n) (parts_of becomes.shape_node) part (is.lawful.nodes_fit n becomes.shape_node becomes.stands).parts_stand c in
+        let lower : part < n = All-contains (λ p. p < n) (parts_of becomes.draft_node) part (is.lawful.nodes_fit n becomes.draft_node becomes.stands).parts_stand c in
         let node = node_becomes formula is terms foralls numbers part (part_of_it becomes.reached becomes.stands c) in
         slice_get_within (old.nodes ++ put.front) (slice_index numbers part) node.0 (put.before.stand part node.0 lower node.1))
         stand)
@@ -157,9 +157,9 @@ module _ (formula : Formula) (is : IsFormula formula) where
 
     -- a reached node is over the terms
     node_terms : (foralls numbers : List ℕ) (n : ℕ) (node : Node) → BecomesNode formula terms foralls numbers n node → AreTerms (terms_in node)
-    node_terms foralls numbers n node becomes = subst (λ (x : Node). AreTerms (terms_in x)) (sym becomes.node_is) (by becomes.shape_node becomes.stands)
+    node_terms foralls numbers n node becomes = subst (λ (x : Node). AreTerms (terms_in x)) (sym becomes.node_is) (by becomes.draft_node becomes.stands)
       where
-        by : (shape : ShapeNode) → slice_get formula.nodes n ≡ Some shape → AreTerms (terms_in (entered_node terms foralls numbers shape))
+        by : (drafted : DraftNode) → slice_get formula.nodes n ≡ Some drafted → AreTerms (terms_in (entered_node terms foralls numbers drafted))
         by (Equal positive left right) at =
             let one = row_below left (named becomes.reached at (0, omega arith, refl)) in
             let other = row_below right (named becomes.reached at (1, omega arith, refl)) in

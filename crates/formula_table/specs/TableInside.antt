@@ -2,7 +2,7 @@
 use Rattle.std.specs.Prelude.{◌<◌, ◌^◌, length}
 use Rattle.indexmap.specs.IndexMap.{values}
 use Rattle.formula_table.specs.declared.formula_table.FormulaTable.TheInside.{Inside}
-use Rattle.formula_shape.specs.Items.{AreKeyed}
+use Rattle.formula_draft.specs.Items.{AreKeyed}
 use Rattle.formula_table.specs.Node.{entered_key}
 use Rattle.formula_table.specs.Formulas.{Formulas, IsFormulaTable}
 

@@ -1,9 +1,9 @@
-//! Why a shape was not entered.
+//! Why a formula was not entered.
 ghost use Rattle.std.specs.Prelude.{◌≡◌};
 
-use term_table::{Memory, TableFault};
+use graph_terms::{Memory, TableFault};
 
-/// Why a shape was not entered.
+/// Why a formula was not entered.
 #[derive(Clone, Copy, Debug, PartialEq, Eq)]
 pub enum EnterFault {
     /// The next term is new, and as many terms stand as may.

@@ -1,6 +1,6 @@
-//! Enters the foralls of a shape.
+//! Enters the foralls of a formula.
 ghost use Rattle.std.specs.Prelude.{◌≡◌, ◌<◌, length, IfOk, OnErr};
-ghost use Rattle.formula_shape.specs.Draft.{IsFormula};
+ghost use Rattle.formula_draft.specs.Draft.{IsFormula};
 ghost use Rattle.formula_table.specs.Marks.{AreMarks};
 ghost use Rattle.formula_table.specs.Formulas.{GrowsTable, with_foralls};
 ghost use Rattle.formula_table.specs.Entry.{table_forall, ReachesForall};
@@ -9,12 +9,13 @@ ghost use Rattle.formula_table.specs.EntryInside.{ForallGrows, ForallsEntered};
 use crate::enter_rows::push_number;
 use crate::formula_table::FormulaTable;
 use crate::table_forall::TableForall;
-use formula_shape::{Shape, ShapeForall};
+use formula_draft::{Formula, DraftForall};
 use std::alloc::Global;
-use term_table::{Memory, Triggers};
+use graph_terms::Memory;
+use graph_trigger::Triggers;
 
-/// A forall of a shape under its number in the table.
-fn numbered_forall(alloc: Global, number: u32, new: &ShapeForall) -> Result<TableForall, Memory>
+/// A forall of a formula under its number in the table.
+fn numbered_forall(alloc: Global, number: u32, new: &DraftForall) -> Result<TableForall, Memory>
     ensures { IfOk result (λ forall. forall ≡ table_forall number new.now) }
 {
     let mut triggers = Triggers::new(alloc);
@@ -34,19 +35,19 @@ fn numbered_forall(alloc: Global, number: u32, new: &ShapeForall) -> Result<Tabl
 fn enter_forall(
     alloc: Global,
     table: &mut FormulaTable,
-    shape: &Shape,
+    formula: &Formula,
     index: u32,
     reached: bool,
 ) -> Result<u32, Memory>
-    requires formula { IsFormula shape.now }
-    requires stands { index < length shape.now.foralls }
-    ensures ok { IfOk result (ForallGrows shape.now index reached table.old table.new) }
+    requires formula { IsFormula formula.now }
+    requires stands { index < length formula.now.foralls }
+    ensures ok { IfOk result (ForallGrows formula.now index reached table.old table.new) }
     ensures err { OnErr result (table.new ≡ table.old) }
 {
     if !reached {
         return Ok(0);
     }
-    let forall = numbered_forall(alloc, table.foralls(), shape.forall_at(index))?;
+    let forall = numbered_forall(alloc, table.foralls(), formula.forall_at(index))?;
     let number = table.push_forall(forall)?;
     Ok(number)
 }
@@ -55,17 +56,17 @@ fn enter_forall(
 pub(crate) fn enter_foralls(
     alloc: Global,
     table: &mut FormulaTable,
-    shape: &Shape,
+    formula: &Formula,
     reached: &[bool],
 ) -> Result<Vec<u32>, Memory>
-    requires formula { IsFormula shape.now }
-    requires reached { AreMarks (length shape.now.foralls) (ReachesForall shape.now) reached.now }
-    ensures ok { IfOk result (λ numbers. ForallsEntered shape.now table.old table.new numbers.items) }
+    requires formula { IsFormula formula.now }
+    requires reached { AreMarks (length formula.now.foralls) (ReachesForall formula.now) reached.now }
+    ensures ok { IfOk result (λ numbers. ForallsEntered formula.now table.old table.new numbers.items) }
     ensures grows { GrowsTable table.old table.new }
 {
     let mut numbers = Vec::new(alloc);
-    for index in 0..shape.foralls() {
-        let number = enter_forall(alloc, table, shape, index, reached[index as usize])?;
+    for index in 0..formula.foralls() {
+        let number = enter_forall(alloc, table, formula, index, reached[index as usize])?;
         push_number(&mut numbers, number)?;
     }
     Ok(numbers)

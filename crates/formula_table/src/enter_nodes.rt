@@ -1,8 +1,8 @@
-//! Enters the nodes of a shape.
+//! Enters the nodes of a formula.
 ghost use Rattle.std.specs.Prelude.{◌≡◌, ◌<◌, ◌↔◌, length, All, IsTrue, IfOk, IfErr, OnErr};
-ghost use Rattle.formula_shape.specs.ShapeNode.{rows_of, parts_of, foralls_of};
-ghost use Rattle.formula_shape.specs.Reach.{ReachesNode};
-ghost use Rattle.formula_shape.specs.Draft.{IsFormula};
+ghost use Rattle.formula_draft.specs.DraftNode.{rows_of, parts_of, foralls_of};
+ghost use Rattle.formula_draft.specs.Reach.{ReachesNode};
+ghost use Rattle.formula_draft.specs.Draft.{IsFormula};
 ghost use Rattle.formula_table.specs.Marks.{AreMarks};
 ghost use Rattle.formula_table.specs.Formulas.{GrowsTable};
 ghost use Rattle.formula_table.specs.Entry.{entered_node};
@@ -12,14 +12,14 @@ use crate::enter_fault::EnterFault;
 use crate::enter_rows::{push_number, renamed};
 use crate::formula_table::FormulaTable;
 use crate::node::Node;
-use formula_shape::{Shape, ShapeNode};
+use formula_draft::{Formula, DraftNode};
 use std::alloc::Global;
-use term_table::Memory;
+use graph_terms::Memory;
 
-/// The node of the table that a node of the shape becomes, over terms, numbers of foralls and numbers of earlier nodes.
+/// The node of the table that a node of the formula becomes, over terms, numbers of foralls and numbers of earlier nodes.
 fn next_node(
     alloc: Global,
-    node: &ShapeNode,
+    node: &DraftNode,
     terms: &[u32],
     foralls: &[u32],
     numbers: &[u32],
@@ -30,7 +30,7 @@ fn next_node(
     ensures { IfOk result (λ made. made ≡ entered_node terms.now foralls.now numbers.now node.now) }
 {
     match node {
-        ShapeNode::Equal {
+        DraftNode::Equal {
             positive,
             left,
             right,
@@ -43,22 +43,22 @@ fn next_node(
                 right: left.max(right),
             });
         }
-        ShapeNode::Atom { positive, row } => {
+        DraftNode::Atom { positive, row } => {
             let term = terms[*row as usize];
             return Ok(Node::Atom {
                 positive: *positive,
                 term,
             });
         }
-        ShapeNode::And { parts } => {
+        DraftNode::And { parts } => {
             let parts = renamed(alloc, parts.as_slice(), numbers)?;
             return Ok(Node::And { parts });
         }
-        ShapeNode::Or { parts } => {
+        DraftNode::Or { parts } => {
             let parts = renamed(alloc, parts.as_slice(), numbers)?;
             return Ok(Node::Or { parts });
         }
-        ShapeNode::Forall { index } => {
+        DraftNode::Forall { index } => {
             let forall = foralls[*index as usize];
             return Ok(Node::Forall { forall });
         }
@@ -69,29 +69,29 @@ fn next_node(
 fn enter_node(
     alloc: Global,
     table: &mut FormulaTable,
-    shape: &Shape,
+    formula: &Formula,
     reached: bool,
     terms: &[u32],
     foralls: &[u32],
     numbers: &[u32],
 ) -> Result<u32, EnterFault>
-    requires formula { IsFormula shape.now }
-    requires next { length numbers.now < length shape.now.nodes }
-    requires reached { IsTrue reached ↔ ReachesNode shape.now.nodes shape.now.root (length numbers.now) }
-    requires terms { length terms.now ≡ length shape.now.rows }
-    requires foralls { length foralls.now ≡ length shape.now.foralls }
-    requires foralls_stand { ForallNumbersStand shape.now table.old foralls.now }
-    requires stand { NodeNumbersStand shape.now table.old numbers.now }
-    ensures ok { IfOk result (NodeGrows shape.now terms.now foralls.now numbers.now table.old table.new) }
-    ensures fault { IfErr result (StopsNode shape.now terms.now foralls.now numbers.now table.old) }
+    requires formula { IsFormula formula.now }
+    requires next { length numbers.now < length formula.now.nodes }
+    requires reached { IsTrue reached ↔ ReachesNode formula.now.nodes formula.now.root (length numbers.now) }
+    requires terms { length terms.now ≡ length formula.now.rows }
+    requires foralls { length foralls.now ≡ length formula.now.foralls }
+    requires foralls_stand { ForallNumbersStand formula.now table.old foralls.now }
+    requires stand { NodeNumbersStand formula.now table.old numbers.now }
+    ensures ok { IfOk result (NodeGrows formula.now terms.now foralls.now numbers.now table.old table.new) }
+    ensures fault { IfErr result (StopsNode formula.now terms.now foralls.now numbers.now table.old) }
     ensures err { OnErr result (table.new ≡ table.old) }
 {
     if !reached {
         return Ok(0);
     }
-    let count = shape.nodes();
+    let count = formula.nodes();
     prove!(numbers.len() < count as usize);
-    let node = shape.node_at(numbers.len() as u32);
+    let node = formula.node_at(numbers.len() as u32);
     let node = next_node(alloc, node, terms, foralls, numbers)?;
     let number = table.put_node(node)?;
     Ok(number)
@@ -101,26 +101,26 @@ fn enter_node(
 pub(crate) fn enter_nodes(
     alloc: Global,
     table: &mut FormulaTable,
-    shape: &Shape,
+    formula: &Formula,
     reached: &[bool],
     terms: &[u32],
     foralls: &[u32],
 ) -> Result<u32, EnterFault>
-    requires formula { IsFormula shape.now }
-    requires reached { AreMarks (length shape.now.nodes) (ReachesNode shape.now.nodes shape.now.root) reached.now }
-    requires terms { length terms.now ≡ length shape.now.rows }
-    requires foralls { length foralls.now ≡ length shape.now.foralls }
-    requires foralls_stand { ForallNumbersStand shape.now table.old foralls.now }
-    ensures ok { IfOk result (NodesEntered shape.now terms.now foralls.now table.old table.new) }
-    ensures fault { IfErr result (StopsNodes shape.now terms.now foralls.now table.old) }
+    requires formula { IsFormula formula.now }
+    requires reached { AreMarks (length formula.now.nodes) (ReachesNode formula.now.nodes formula.now.root) reached.now }
+    requires terms { length terms.now ≡ length formula.now.rows }
+    requires foralls { length foralls.now ≡ length formula.now.foralls }
+    requires foralls_stand { ForallNumbersStand formula.now table.old foralls.now }
+    ensures ok { IfOk result (NodesEntered formula.now terms.now foralls.now table.old table.new) }
+    ensures fault { IfErr result (StopsNodes formula.now terms.now foralls.now table.old) }
     ensures grows { GrowsTable table.old table.new }
 {
     let mut numbers = Vec::new(alloc);
-    for n in 0..shape.nodes() {
+    for n in 0..formula.nodes() {
         let number = enter_node(
             alloc,
             table,
-            shape,
+            formula,
             reached[n as usize],
             terms,
             foralls,
@@ -128,5 +128,5 @@ pub(crate) fn enter_nodes(
         )?;
         push_number(&mut numbers, number)?;
     }
-    Ok(numbers[shape.root() as usize])
+    Ok(numbers[formula.root() as usize])
 }

@@ -1,17 +1,17 @@
-//! Enters the rows of a shape as terms.
+//! Enters the rows of a formula as terms.
 ghost use Rattle.std.specs.Prelude.{◌≡◌, ◌<◌, ◌≤◌, ◌↔◌, ◌++◌, ◌∷◌, [], List, length, map, slice_index, All, IsTrue, IfOk, IfErr, OnOk};
-ghost use Rattle.term_table.specs.declared.term_row.TermRow.{TermRow};
-ghost use Rattle.term_table.specs.TermEntry.{AddGrows};
-ghost use Rattle.formula_shape.specs.Reach.{ReachesRow};
+ghost use Rattle.graph_terms.specs.declared.term_row.TermRow.{TermRow};
+ghost use Rattle.graph_terms.specs.TermEntry.{AddGrows};
+ghost use Rattle.formula_draft.specs.Reach.{ReachesRow};
 ghost use Rattle.formula_table.specs.Marks.{AreMarks};
-ghost use Rattle.formula_shape.specs.Draft.{IsFormula};
+ghost use Rattle.formula_draft.specs.Draft.{IsFormula};
 ghost use Rattle.formula_table.specs.Entry.{entered_row, RowsGrow};
 ghost use Rattle.formula_table.specs.EntryInside.{NumbersStand, StopsTerm, RowGrows, StopsRow, StopsRows};
 
 use crate::enter_fault::EnterFault;
-use formula_shape::{Shape, ShapeRow};
+use formula_draft::{Formula, DraftRow};
 use std::alloc::Global;
-use term_table::{Memory, Numbers, TermEntry};
+use graph_terms::{Memory, Numbers, TermEntry};
 
 /// Puts a number last.
 pub(crate) fn push_number(numbers: &mut Vec<u32>, number: u32) -> Result<(), Memory>
@@ -56,25 +56,25 @@ fn add_term<E: TermEntry>(
 fn enter_row<E: TermEntry>(
     alloc: Global,
     terms: &mut E,
-    shape: &Shape,
+    formula: &Formula,
     reached: bool,
     numbers: &[u32],
 ) -> Result<u32, EnterFault>
-    requires formula { IsFormula shape.now }
-    requires next { length numbers.now < length shape.now.rows }
-    requires reached { IsTrue reached ↔ ReachesRow shape.now.rows shape.now.nodes shape.now.root (length numbers.now) }
-    requires stand { NumbersStand shape.now (length (E.rows terms.old)) numbers.now }
-    ensures ok { IfOk result (RowGrows (E.grown terms.old terms.new) shape.now (E.rows terms.old) (E.limit terms.old) numbers.now) }
-    ensures fault { IfErr result (StopsRow (terms.new ≡ terms.old) (E.refused terms.old terms.new) shape.now (E.rows terms.old) (E.limit terms.old) numbers.now) }
+    requires formula { IsFormula formula.now }
+    requires next { length numbers.now < length formula.now.rows }
+    requires reached { IsTrue reached ↔ ReachesRow formula.now.rows formula.now.nodes formula.now.root (length numbers.now) }
+    requires stand { NumbersStand formula.now (length (E.rows terms.old)) numbers.now }
+    ensures ok { IfOk result (RowGrows (E.grown terms.old terms.new) formula.now (E.rows terms.old) (E.limit terms.old) numbers.now) }
+    ensures fault { IfErr result (StopsRow (terms.new ≡ terms.old) (E.refused terms.old terms.new) formula.now (E.rows terms.old) (E.limit terms.old) numbers.now) }
 {
     if !reached {
         return Ok(0);
     }
-    let count = shape.rows();
+    let count = formula.rows();
     prove!(numbers.len() < count as usize);
-    match shape.row_at(numbers.len() as u32) {
-        ShapeRow::Var { .. } => unreachable!(),
-        ShapeRow::App { symbol, args } => {
+    match formula.row_at(numbers.len() as u32) {
+        DraftRow::Var { .. } => unreachable!(),
+        DraftRow::App { symbol, args } => {
             return add_term(alloc, terms, *symbol, args.as_slice(), numbers);
         }
     }
@@ -84,17 +84,17 @@ fn enter_row<E: TermEntry>(
 pub(crate) fn enter_rows<E: TermEntry>(
     alloc: Global,
     terms: &mut E,
-    shape: &Shape,
+    formula: &Formula,
     reached: &[bool],
 ) -> Result<Vec<u32>, EnterFault>
-    requires formula { IsFormula shape.now }
-    requires reached { AreMarks (length shape.now.rows) (ReachesRow shape.now.rows shape.now.nodes shape.now.root) reached.now }
-    ensures ok { IfOk result (λ numbers. RowsGrow (E.grown terms.old terms.new) shape.now (E.rows terms.old) (E.limit terms.old) numbers.items) }
-    ensures fault { IfErr result (StopsRows (E.grown terms.old terms.new) (λ added. (middle : E) × E.grown terms.old middle added × E.refused middle terms.new) shape.now (E.rows terms.old) (E.limit terms.old)) }
+    requires formula { IsFormula formula.now }
+    requires reached { AreMarks (length formula.now.rows) (ReachesRow formula.now.rows formula.now.nodes formula.now.root) reached.now }
+    ensures ok { IfOk result (λ numbers. RowsGrow (E.grown terms.old terms.new) formula.now (E.rows terms.old) (E.limit terms.old) numbers.items) }
+    ensures fault { IfErr result (StopsRows (E.grown terms.old terms.new) (λ added. (middle : E) × E.grown terms.old middle added × E.refused middle terms.new) formula.now (E.rows terms.old) (E.limit terms.old)) }
 {
     let mut numbers = Vec::new(alloc);
-    for n in 0..shape.rows() {
-        let number = enter_row(alloc, terms, shape, reached[n as usize], &numbers)?;
+    for n in 0..formula.rows() {
+        let number = enter_row(alloc, terms, formula, reached[n as usize], &numbers)?;
         push_number(&mut numbers, number)?;
     }
     Ok(numbers)

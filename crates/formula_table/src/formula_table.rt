@@ -1,9 +1,9 @@
 //! The table of formulas.
 ghost use Rattle.std.specs.Prelude.{◌≡◌, ◌<◌, ◌≤◌, ◌++◌, ◌∷◌, [], Some, length, slice_get, IfOk, IfErr, OnOk, OnErr};
 ghost use Rattle.formula_table.specs.Formulas.{no_formulas, first_formulas, IsFormulaTable, IsForallOf, NamesFirst, HasTriggers, FitsTable, RefusesEntered, with_foralls, with_entered, GrowsTable};
-ghost use Rattle.formula_shape.specs.Reach.{ReachesNode};
+ghost use Rattle.formula_draft.specs.Reach.{ReachesNode};
 ghost use Rattle.formula_table.specs.Marks.{AreMarks};
-ghost use Rattle.formula_shape.specs.Draft.{IsFormula};
+ghost use Rattle.formula_draft.specs.Draft.{IsFormula};
 ghost use Rattle.formula_table.specs.Entry.{TableGrows, StopsTable, Enters, StopsEntry};
 
 use crate::enter_fault::EnterFault;
@@ -13,12 +13,13 @@ use crate::enter_rows::enter_rows;
 use crate::node::Node;
 use crate::reached::{reached_foralls, reached_nodes, reached_rows};
 use crate::table_forall::TableForall;
-use formula_shape::Shape;
-use formula_shape::items::put;
+use formula_draft::Formula;
+use formula_draft::items::put;
 use indexmap::IndexMap;
 use std::alloc::Global;
 use std::marker::Model;
-use term_table::{Memory, TermEntry, Triggers};
+use graph_terms::{Memory, TermEntry};
+use graph_trigger::Triggers;
 
 /// Formulas and foralls by number. A node stands once, and its number is its place.
 #[derive(Drop)]
@@ -94,57 +95,57 @@ impl FormulaTable {
         self.foralls.truncate(foralls as usize);
     }
 
-    /// Enters what is reached from the root of the shape, without going into the bodies of foralls, in the shape's order.
+    /// Enters what is reached from the root of the formula, without going into the bodies of foralls, in the formula's order.
     /// First its rows are added as terms. Then its foralls get the next numbers, which their triggers carry with their
     /// places. Then its nodes are entered: a node that stands keeps its number, and the terms of an equation are put in
     /// ascending order. Gives the number of the root. After a refusal the table is as before, and the terms that were added stand.
-    pub fn enter<E: TermEntry>(&mut self, terms: &mut E, shape: &Shape) -> Result<u32, EnterFault>
-        ensures ok { IfOk result (Enters (E.grown terms.old terms.new) shape.now (E.rows terms.old) (E.limit terms.old) self.old self.new) }
-        ensures fault { IfErr result (StopsEntry (E.grown terms.old terms.new) (λ added. (middle : E) × E.grown terms.old middle added × E.refused middle terms.new) shape.now (E.rows terms.old) (E.limit terms.old) self.old) }
+    pub fn enter<E: TermEntry>(&mut self, terms: &mut E, formula: &Formula) -> Result<u32, EnterFault>
+        ensures ok { IfOk result (Enters (E.grown terms.old terms.new) formula.now (E.rows terms.old) (E.limit terms.old) self.old self.new) }
+        ensures fault { IfErr result (StopsEntry (E.grown terms.old terms.new) (λ added. (middle : E) × E.grown terms.old middle added × E.refused middle terms.new) formula.now (E.rows terms.old) (E.limit terms.old) self.old) }
         ensures err { OnErr result (self.new ≡ self.old) }
     {
         let alloc = self.allocator();
-        let root = shape.root();
-        let nodes = reached_nodes(alloc, shape, root)?;
-        let rows = reached_rows(alloc, shape, root, &nodes)?;
-        let numbers = enter_rows(alloc, terms, shape, &rows)?;
-        let number = self.enter_all(shape, &nodes, &numbers)?;
+        let root = formula.root();
+        let nodes = reached_nodes(alloc, formula, root)?;
+        let rows = reached_rows(alloc, formula, root, &nodes)?;
+        let numbers = enter_rows(alloc, terms, formula, &rows)?;
+        let number = self.enter_all(formula, &nodes, &numbers)?;
         Ok(number)
     }
 
     /// Enters the reached foralls and nodes. Gives the number of the root. After a refusal some may stand.
     fn enter_some(
         &mut self,
-        shape: &Shape,
+        formula: &Formula,
         nodes: &[bool],
         terms: &[u32],
     ) -> Result<u32, EnterFault>
-        requires formula { IsFormula shape.now }
-        requires reached { AreMarks (length shape.now.nodes) (ReachesNode shape.now.nodes shape.now.root) nodes.now }
-        requires terms { length terms.now ≡ length shape.now.rows }
-        ensures ok { IfOk result (TableGrows shape.now terms.now self.old self.new) }
-        ensures fault { IfErr result (StopsTable shape.now terms.now self.old) }
+        requires formula { IsFormula formula.now }
+        requires reached { AreMarks (length formula.now.nodes) (ReachesNode formula.now.nodes formula.now.root) nodes.now }
+        requires terms { length terms.now ≡ length formula.now.rows }
+        ensures ok { IfOk result (TableGrows formula.now terms.now self.old self.new) }
+        ensures fault { IfErr result (StopsTable formula.now terms.now self.old) }
         ensures grows { GrowsTable self.old self.new }
     {
         let alloc = self.allocator();
-        let foralls = reached_foralls(alloc, shape, nodes)?;
-        let numbers = enter_foralls(alloc, self, shape, &foralls)?;
-        let number = enter_nodes(alloc, self, shape, nodes, terms, &numbers)?;
+        let foralls = reached_foralls(alloc, formula, nodes)?;
+        let numbers = enter_foralls(alloc, self, formula, &foralls)?;
+        let number = enter_nodes(alloc, self, formula, nodes, terms, &numbers)?;
         Ok(number)
     }
 
     /// Enters the reached foralls and nodes, all or none. Gives the number of the root.
-    fn enter_all(&mut self, shape: &Shape, nodes: &[bool], terms: &[u32]) -> Result<u32, EnterFault>
-        requires formula { IsFormula shape.now }
-        requires reached { AreMarks (length shape.now.nodes) (ReachesNode shape.now.nodes shape.now.root) nodes.now }
-        requires terms { length terms.now ≡ length shape.now.rows }
-        ensures ok { IfOk result (TableGrows shape.now terms.now self.old self.new) }
-        ensures fault { IfErr result (StopsTable shape.now terms.now self.old) }
+    fn enter_all(&mut self, formula: &Formula, nodes: &[bool], terms: &[u32]) -> Result<u32, EnterFault>
+        requires formula { IsFormula formula.now }
+        requires reached { AreMarks (length formula.now.nodes) (ReachesNode formula.now.nodes formula.now.root) nodes.now }
+        requires terms { length terms.now ≡ length formula.now.rows }
+        ensures ok { IfOk result (TableGrows formula.now terms.now self.old self.new) }
+        ensures fault { IfErr result (StopsTable formula.now terms.now self.old) }
         ensures err { OnErr result (self.new ≡ self.old) }
     {
         let kept_nodes = self.len();
         let kept_foralls = self.foralls();
-        match self.enter_some(shape, nodes, terms) {
+        match self.enter_some(formula, nodes, terms) {
             Ok(number) => return Ok(number),
             Err(fault) => {
                 self.cut(kept_nodes, kept_foralls);

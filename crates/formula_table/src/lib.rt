@@ -18,17 +18,18 @@ pub use table_forall::TableForall;
 #[cfg(test)]
 mod tests {
     use super::*;
-    use formula_shape::{Shape, ShapeDraft, ShapeFault, ShapeMaker, ShapeNode, ShapeRow};
+    use formula_draft::{Formula, FormulaDraft, DraftFault, FormulaMaker, DraftNode, DraftRow};
     use std::alloc::Global;
     use std::test::Fail;
-    use term_table::{Memory, Numbers, TermTable, Triggers};
+    use graph_terms::{Memory, Numbers, TermTable};
+    use graph_trigger::Triggers;
 
     /// The atom of a constant.
-    fn atom(alloc: Global) -> Result<Shape, ShapeFault> {
-        let mut maker = ShapeMaker::new(alloc, 4, 4)?;
+    fn atom(alloc: Global) -> Result<Formula, DraftFault> {
+        let mut maker = FormulaMaker::new(alloc, 4, 4)?;
         let args = Numbers::from_slice(alloc, &[])?;
-        let row = maker.row(ShapeRow::App { symbol: 7, args })?;
-        let root = maker.node(ShapeNode::Atom {
+        let row = maker.row(DraftRow::App { symbol: 7, args })?;
+        let root = maker.node(DraftNode::Atom {
             positive: true,
             row,
         })?;
@@ -38,11 +39,11 @@ mod tests {
     #[test]
     fn an_atom_is_entered_once(rt: HostRuntime) -> Result<(), Fail> {
         let alloc = rt.alloc();
-        let shape = atom(alloc)?;
+        let formula = atom(alloc)?;
         let mut terms = TermTable::new(alloc, 8)?;
         let mut table = FormulaTable::new(alloc, 8)?;
         for _ in 0..2 {
-            let root = table.enter(&mut terms, &shape)?;
+            let root = table.enter(&mut terms, &formula)?;
             assert_eq!(rt; root, 0);
         }
         assert_eq!(rt; [table.len(), terms.len(), table.foralls()], [1, 3, 0]);
@@ -64,10 +65,10 @@ mod tests {
     #[test]
     fn a_draft_takes_each_row_and_node_once(rt: HostRuntime) -> Result<(), Fail> {
         let alloc = rt.alloc();
-        let mut draft = ShapeDraft::new(alloc, 4, 4);
+        let mut draft = FormulaDraft::new(alloc, 4, 4);
         for _ in 0..2 {
-            let row = draft.row(ShapeRow::Var { index: 3 })?;
-            let node = draft.node(ShapeNode::Forall { index: 5 })?;
+            let row = draft.row(DraftRow::Var { index: 3 })?;
+            let node = draft.node(DraftNode::Forall { index: 5 })?;
             assert_eq!(rt; [row, node], [0, 0]);
         }
         assert_eq!(rt; draft.forall(2, 9, Triggers::new(alloc))?, 0);

@@ -1,15 +1,15 @@
-//! What of a shape is reached from a node.
+//! What of a formula is reached from a node.
 ghost use Rattle.std.specs.Prelude.{◌≡◌, ◌<◌, length, All, IfOk};
-ghost use Rattle.formula_shape.specs.ShapeRow.{args_of};
-ghost use Rattle.formula_shape.specs.ShapeNode.{rows_of, parts_of, foralls_of};
-ghost use Rattle.formula_shape.specs.Reach.{ReachesNode, ReachesRow};
+ghost use Rattle.formula_draft.specs.DraftRow.{args_of};
+ghost use Rattle.formula_draft.specs.DraftNode.{rows_of, parts_of, foralls_of};
+ghost use Rattle.formula_draft.specs.Reach.{ReachesNode, ReachesRow};
 ghost use Rattle.formula_table.specs.Marks.{Marks, AreMarks, IsNamed};
-ghost use Rattle.formula_shape.specs.Draft.{IsFormula};
+ghost use Rattle.formula_draft.specs.Draft.{IsFormula};
 ghost use Rattle.formula_table.specs.Entry.{ReachesForall};
 
-use formula_shape::{Shape, ShapeNode, ShapeRow};
+use formula_draft::{Formula, DraftNode, DraftRow};
 use std::alloc::Global;
-use term_table::Memory;
+use graph_terms::Memory;
 
 /// Marks these numbers.
 fn mark(marks: &mut [bool], places: &[u32])
@@ -22,80 +22,80 @@ fn mark(marks: &mut [bool], places: &[u32])
 }
 
 /// Marks the parts of a node.
-fn mark_parts(marks: &mut [bool], node: &ShapeNode)
+fn mark_parts(marks: &mut [bool], node: &DraftNode)
     requires { All (λ part. part < length marks.old) (parts_of node.now) }
     ensures { Marks (parts_of node.now) marks.old marks.new }
 {
     match node {
-        ShapeNode::And { parts } => mark(marks, parts.as_slice()),
-        ShapeNode::Or { parts } => mark(marks, parts.as_slice()),
+        DraftNode::And { parts } => mark(marks, parts.as_slice()),
+        DraftNode::Or { parts } => mark(marks, parts.as_slice()),
         _ => mark(marks, &[]),
     }
 }
 
 /// Marks the rows that a node names.
-fn mark_rows(marks: &mut [bool], node: &ShapeNode)
+fn mark_rows(marks: &mut [bool], node: &DraftNode)
     requires { All (λ row. row < length marks.old) (rows_of node.now) }
     ensures { Marks (rows_of node.now) marks.old marks.new }
 {
     match node {
-        ShapeNode::Equal { left, right, .. } => mark(marks, &[*left, *right]),
-        ShapeNode::Atom { row, .. } => mark(marks, &[*row]),
+        DraftNode::Equal { left, right, .. } => mark(marks, &[*left, *right]),
+        DraftNode::Atom { row, .. } => mark(marks, &[*row]),
         _ => mark(marks, &[]),
     }
 }
 
 /// Marks the forall that a node is.
-fn mark_foralls(marks: &mut [bool], node: &ShapeNode)
+fn mark_foralls(marks: &mut [bool], node: &DraftNode)
     requires { All (λ index. index < length marks.old) (foralls_of node.now) }
     ensures { Marks (foralls_of node.now) marks.old marks.new }
 {
     match node {
-        ShapeNode::Forall { index } => mark(marks, &[*index]),
+        DraftNode::Forall { index } => mark(marks, &[*index]),
         _ => mark(marks, &[]),
     }
 }
 
 /// Marks the arguments of a row.
-fn mark_args(marks: &mut [bool], row: &ShapeRow)
+fn mark_args(marks: &mut [bool], row: &DraftRow)
     requires { All (λ arg. arg < length marks.old) (args_of row.now) }
     ensures { Marks (args_of row.now) marks.old marks.new }
 {
     match row {
-        ShapeRow::App { args, .. } => mark(marks, args.as_slice()),
-        ShapeRow::Var { .. } => mark(marks, &[]),
+        DraftRow::App { args, .. } => mark(marks, args.as_slice()),
+        DraftRow::Var { .. } => mark(marks, &[]),
     }
 }
 
 /// The nodes that are reached from the start, without going into the bodies of foralls.
-pub(crate) fn reached_nodes(alloc: Global, shape: &Shape, start: u32) -> Result<Vec<bool>, Memory>
-    requires formula { IsFormula shape.now }
-    requires stands { start < length shape.now.nodes }
-    ensures { IfOk result (λ marks. AreMarks (length shape.now.nodes) (ReachesNode shape.now.nodes start) marks.items) }
+pub(crate) fn reached_nodes(alloc: Global, formula: &Formula, start: u32) -> Result<Vec<bool>, Memory>
+    requires formula { IsFormula formula.now }
+    requires stands { start < length formula.now.nodes }
+    ensures { IfOk result (λ marks. AreMarks (length formula.now.nodes) (ReachesNode formula.now.nodes start) marks.items) }
 {
-    let count = shape.nodes();
+    let count = formula.nodes();
     let mut marks = vec![in alloc; false; count as usize]?;
     marks[start as usize] = true;
     let mut n = count;
     while n > 0 {
         n -= 1;
         if marks[n as usize] {
-            mark_parts(&mut marks, shape.node_at(n));
+            mark_parts(&mut marks, formula.node_at(n));
         }
     }
     Ok(marks)
 }
 
 /// The rows that these nodes name.
-fn named_rows(alloc: Global, shape: &Shape, start: u32, nodes: &[bool]) -> Result<Vec<bool>, Memory>
-    requires formula { IsFormula shape.now }
-    requires nodes { AreMarks (length shape.now.nodes) (ReachesNode shape.now.nodes start) nodes.now }
-    ensures { IfOk result (λ marks. AreMarks (length shape.now.rows) (IsNamed rows_of shape.now.nodes start) marks.items) }
+fn named_rows(alloc: Global, formula: &Formula, start: u32, nodes: &[bool]) -> Result<Vec<bool>, Memory>
+    requires formula { IsFormula formula.now }
+    requires nodes { AreMarks (length formula.now.nodes) (ReachesNode formula.now.nodes start) nodes.now }
+    ensures { IfOk result (λ marks. AreMarks (length formula.now.rows) (IsNamed rows_of formula.now.nodes start) marks.items) }
 {
-    let mut marks = vec![in alloc; false; shape.rows() as usize]?;
-    for n in 0..shape.nodes() {
+    let mut marks = vec![in alloc; false; formula.rows() as usize]?;
+    for n in 0..formula.nodes() {
         if nodes[n as usize] {
-            mark_rows(&mut marks, shape.node_at(n));
+            mark_rows(&mut marks, formula.node_at(n));
         }
     }
     Ok(marks)
@@ -104,20 +104,20 @@ fn named_rows(alloc: Global, shape: &Shape, start: u32, nodes: &[bool]) -> Resul
 /// The rows that are reached from these nodes.
 pub(crate) fn reached_rows(
     alloc: Global,
-    shape: &Shape,
+    formula: &Formula,
     start: u32,
     nodes: &[bool],
 ) -> Result<Vec<bool>, Memory>
-    requires formula { IsFormula shape.now }
-    requires nodes { AreMarks (length shape.now.nodes) (ReachesNode shape.now.nodes start) nodes.now }
-    ensures { IfOk result (λ marks. AreMarks (length shape.now.rows) (ReachesRow shape.now.rows shape.now.nodes start) marks.items) }
+    requires formula { IsFormula formula.now }
+    requires nodes { AreMarks (length formula.now.nodes) (ReachesNode formula.now.nodes start) nodes.now }
+    ensures { IfOk result (λ marks. AreMarks (length formula.now.rows) (ReachesRow formula.now.rows formula.now.nodes start) marks.items) }
 {
-    let mut marks = named_rows(alloc, shape, start, nodes)?;
-    let mut n = shape.rows();
+    let mut marks = named_rows(alloc, formula, start, nodes)?;
+    let mut n = formula.rows();
     while n > 0 {
         n -= 1;
         if marks[n as usize] {
-            mark_args(&mut marks, shape.row_at(n));
+            mark_args(&mut marks, formula.row_at(n));
         }
     }
     Ok(marks)
@@ -126,18 +126,18 @@ pub(crate) fn reached_rows(
 /// The foralls that these nodes are.
 fn named_foralls(
     alloc: Global,
-    shape: &Shape,
+    formula: &Formula,
     start: u32,
     nodes: &[bool],
 ) -> Result<Vec<bool>, Memory>
-    requires formula { IsFormula shape.now }
-    requires nodes { AreMarks (length shape.now.nodes) (ReachesNode shape.now.nodes start) nodes.now }
-    ensures { IfOk result (λ marks. AreMarks (length shape.now.foralls) (IsNamed foralls_of shape.now.nodes start) marks.items) }
+    requires formula { IsFormula formula.now }
+    requires nodes { AreMarks (length formula.now.nodes) (ReachesNode formula.now.nodes start) nodes.now }
+    ensures { IfOk result (λ marks. AreMarks (length formula.now.foralls) (IsNamed foralls_of formula.now.nodes start) marks.items) }
 {
-    let mut marks = vec![in alloc; false; shape.foralls() as usize]?;
-    for n in 0..shape.nodes() {
+    let mut marks = vec![in alloc; false; formula.foralls() as usize]?;
+    for n in 0..formula.nodes() {
         if nodes[n as usize] {
-            mark_foralls(&mut marks, shape.node_at(n));
+            mark_foralls(&mut marks, formula.node_at(n));
         }
     }
     Ok(marks)
@@ -146,13 +146,13 @@ fn named_foralls(
 /// The foralls that are reached from the root.
 pub(crate) fn reached_foralls(
     alloc: Global,
-    shape: &Shape,
+    formula: &Formula,
     nodes: &[bool],
 ) -> Result<Vec<bool>, Memory>
-    requires formula { IsFormula shape.now }
-    requires nodes { AreMarks (length shape.now.nodes) (ReachesNode shape.now.nodes shape.now.root) nodes.now }
-    ensures { IfOk result (λ marks. AreMarks (length shape.now.foralls) (ReachesForall shape.now) marks.items) }
+    requires formula { IsFormula formula.now }
+    requires nodes { AreMarks (length formula.now.nodes) (ReachesNode formula.now.nodes formula.now.root) nodes.now }
+    ensures { IfOk result (λ marks. AreMarks (length formula.now.foralls) (ReachesForall formula.now) marks.items) }
 {
-    let marks = named_foralls(alloc, shape, shape.root(), nodes)?;
+    let marks = named_foralls(alloc, formula, formula.root(), nodes)?;
     Ok(marks)
 }

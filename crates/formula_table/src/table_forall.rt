@@ -1,6 +1,6 @@
 //! A forall of the table of formulas.
 
-use term_table::Triggers;
+use graph_trigger::Triggers;
 
 /// A forall that was entered.
 #[derive(Debug, Drop)]

@@ -4,10 +4,11 @@ mod calls;
 mod deed;
 mod draw;
 mod fact;
+mod labels;
 mod pair;
 mod step;
 
-use congruence::{Clash, Graph};
+use graph_congruence::{Clash, Graph};
 use deed::Deed::{Add, Differ, Live, Merge, Pop, Push};
 use draw::draw_list;
 use fact::Fact::{Apart, Clashes, Depth, Equal, Fixed, Fresh, Led, Limit, NoClash, Terms, Version};
@@ -18,7 +19,7 @@ use std::test::Fail;
 use std::thread::{Threads, join};
 use step::Step::{Call, Do, Falls, Find, Full, Mark, Refuse, See, Stands, TakeBack};
 use step::{Step, passes};
-use term_table::ClassGraph;
+use graph_meaning::ClassGraph;
 
 /// Does the steps in order.
 fn run(rt: &impl Abort, alloc: Global, pair: &mut Pair, steps: &[Step]) -> Result<(), Fail> {

@@ -13,7 +13,7 @@ use Rattle.std.specs.List.Sorted.{IsSorted, IsStrictlySortedBy}
 use Rattle.std.proofs.lemmas.Cmp.{nat_list_cmp_total}
 use Rattle.std.proofs.lemmas.List.Elements.{All-from_recursion}
 use Rattle.std.proofs.lemmas.List.Kept.{AllPairs-cons, IsStrictlySortedBy-dedup, Contains-dedup, Contains-from_dedup}
-use Rattle.term_table.specs.Match.{InOrder}
+use Rattle.graph_meaning.specs.Match.{InOrder}
 
 -- a strictly sorted list is in order
 pub in_order : (xs : List (List ℕ)) → IsStrictlySortedBy (slice_cmp nat_cmp) xs → InOrder xs

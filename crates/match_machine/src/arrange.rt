@@ -4,10 +4,10 @@ ghost use Rattle.std.specs.Ordering.{nat_cmp};
 ghost use Rattle.std.specs.Cmp.Lexicographic.{slice_cmp};
 ghost use Rattle.std.specs.List.{dedup};
 ghost use Rattle.std.specs.List.Sorted.{IsSorted};
-ghost use Rattle.term_table.specs.Match.{InOrder};
+ghost use Rattle.graph_meaning.specs.Match.{InOrder};
 ghost use Rattle.match_machine.specs.Order.{same_list};
 
-use term_table::{Memory, Numbers};
+use graph_terms::{Memory, Numbers};
 
 /// Puts lists of numbers into lexicographic order.
 fn sort(lists: &mut Vec<Numbers>) -> Result<(), Memory>

@@ -5,7 +5,7 @@ ghost use Rattle.match_machine.specs.Batch.{AreNumbered};
 use crate::item::Item;
 use std::alloc::Global;
 use std::marker::Model;
-use term_table::Memory;
+use graph_terms::Memory;
 
 /// A list of items whose numbers are 0, 1, 2 and so on.
 #[derive(Debug, Drop)]

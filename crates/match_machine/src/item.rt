@@ -1,5 +1,5 @@
 //! Items of matching work.
-use term_table::Numbers;
+use graph_terms::Numbers;
 
 /// Asks for the matches of entries of one tree that begin at one term.
 #[derive(Debug, Drop)]

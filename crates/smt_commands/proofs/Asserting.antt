@@ -5,7 +5,7 @@ use Rattle.em_outside.specs.declared.limits.Limits.{Limits}
 use Rattle.smt_text.specs.Word.{Word}
 use Rattle.smt_text.specs.Trees.{ahead, outermost}
 use Rattle.smt_text.specs.declared.token.Place.{Place}
-use Rattle.formula_shape.specs.Draft.{Draft, Formula, IsFormula, empty_draft, finished}
+use Rattle.formula_draft.specs.Draft.{Draft, Formula, IsFormula, empty_draft, finished}
 use Rattle.smt_names.specs.declared.value.Value.{Value}
 use Rattle.smt_names.specs.declared.bound.Bound.{Bound}
 use Rattle.smt_names.specs.declared.refusal.Refusal.TheVariants.{WrongSort}
@@ -18,7 +18,7 @@ use Rattle.smt_terms.specs.Machine.{scope_of}
 use Rattle.smt_terms.specs.Meant.{Meant, first_place}
 use Rattle.smt_terms.specs.Terms.{value}
 use Rattle.smt_terms.specs.Cursor.{here}
-use Rattle.shape_laws.specs.Laws.{MakesFormulas}
+use Rattle.smt_laws.specs.Laws.{MakesFormulas}
 use Rattle.smt_commands.specs.declared.command.Command.TheVariants.{Assert}
 use Rattle.smt_commands.specs.Commands.{begun, sorted_value, asserted, asserted_term, outside, without_draft}
 use Rattle.smt_commands.specs.SessionLaws.{IsSound}
@@ -65,6 +65,6 @@ reads_formula law state words i head new v sound is =
     (law state head (outermost (ahead (drop i words))) state.limits.terms state.limits.nodes v new sound.declared both.0 both.1).0
 
 -- and it is asserted
-pub asserts_formula : (state : State) (head : Place) (trees : Meant) (new : Draft) (v : Value) (shape : Formula) → sorted_value head (outside state) 0 trees (draft_of state) ≡ Ok (v, new) → shape ≡ finished new (self v)
-    → begun state (asserted_term state head trees) ≡ answered (Assert shape) state
-asserts_formula state head trees new v shape is same = ap (λ (r : Result (Value × Draft) SyntaxFault). without_draft (then_from (asserted state) r)) is ∙ ap (λ (f : Formula). answered (Assert f) state) (sym same)
+pub asserts_formula : (state : State) (head : Place) (trees : Meant) (new : Draft) (v : Value) (formula : Formula) → sorted_value head (outside state) 0 trees (draft_of state) ≡ Ok (v, new) → formula ≡ finished new (self v)
+    → begun state (asserted_term state head trees) ≡ answered (Assert formula) state
+asserts_formula state head trees new v formula is same = ap (λ (r : Result (Value × Draft) SyntaxFault). without_draft (then_from (asserted state) r)) is ∙ ap (λ (f : Formula). answered (Assert f) state) (sym same)

@@ -2,7 +2,7 @@
 use Rattle.std.proofs.Common.{◌≡◌, ℕ, ◌+◌, ◌<◌, false, List, [], ◌∷◌, Result, Ok, Err, refl, sym, ap, ◌∙◌, arith}
 use Rattle.std.proofs.lemmas.List.{append-nil}
 use Rattle.smt_text.specs.Word.{Word}
-use Rattle.formula_shape.specs.Draft.{Draft, empty_draft}
+use Rattle.formula_draft.specs.Draft.{Draft, empty_draft}
 use Rattle.smt_names.specs.declared.bound.Bound.{Bound}
 use Rattle.smt_names.specs.declared.stands.Stands.TheVariants.{Variable}
 use Rattle.smt_names.specs.declared.stop.Stop.{Stop}

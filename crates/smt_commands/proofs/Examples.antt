@@ -5,9 +5,9 @@ use Rattle.smt_text.specs.declared.token.Kind.{Kind}
 use Rattle.smt_text.specs.declared.token.Kind.TheVariants.{Left, Right, Symbol, Keyword, Numeral, Text}
 use Rattle.smt_text.specs.Trees.{ahead}
 use Rattle.em_outside.specs.declared.limits.Limits.{Limits}
-use Rattle.term_table.specs.declared.pattern_row.PatternRow.TheVariants as pattern
-use Rattle.formula_shape.specs.declared.shape_row.ShapeRow.TheVariants.{Var, App}
-use Rattle.formula_shape.specs.declared.shape_node.ShapeNode.TheVariants.{Equal, Atom, Forall}
+use Rattle.graph_trigger.specs.declared.pattern_row.PatternRow.TheVariants as pattern
+use Rattle.formula_draft.specs.declared.draft_row.DraftRow.TheVariants.{Var, App}
+use Rattle.formula_draft.specs.declared.draft_node.DraftNode.TheVariants.{Equal, Atom, Forall}
 use Rattle.smt_names.specs.declared.value.Value.TheVariants.{Formula}
 use Rattle.smt_names.specs.declared.refusal.Refusal.{Refusal}
 use Rattle.smt_names.specs.declared.refusal.Refusal.TheVariants as refusal

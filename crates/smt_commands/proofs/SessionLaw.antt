@@ -4,7 +4,7 @@ use Rattle.std.proofs.lemmas.Option.{none-some}
 use Rattle.em_outside.specs.declared.limits.Limits.{Limits}
 use Rattle.smt_text.specs.Trees as trees
 use Rattle.smt_text.specs.declared.token.Place.{Place}
-use Rattle.formula_shape.specs.Draft.{Draft, Formula, IsFormula, finished}
+use Rattle.formula_draft.specs.Draft.{Draft, Formula, IsFormula, finished}
 use Rattle.smt_names.specs.declared.value.Value.{Value}
 use Rattle.smt_names.specs.declared.bound.Bound.{Bound}
 use Rattle.smt_names.specs.declared.stands.Stands.{Stands}
@@ -17,10 +17,10 @@ use Rattle.smt_names.specs.Making.{Making, made, then_from, ◌>>◌, want, bad_
 use Rattle.smt_names.specs.Names.{State, Defined, is_symbol, with_sort, with_function, declared_as, at_start, cleared, level_of, pushed, popped}
 use Rattle.smt_terms.specs.Meant.{Meant, from, first_place, at_most}
 use Rattle.smt_terms.specs.Terms.{value, meant}
-use Rattle.shape_laws.specs.Sorted.{IsTruth}
-use Rattle.shape_laws.specs.Sound.{IsDefinition}
-use Rattle.shape_laws.specs.Laws as laws
-use Rattle.shape_laws.specs.Laws.{MakesFormulas, MakesDefinitions, KeepsDefinitions}
+use Rattle.smt_laws.specs.Sorted.{IsTruth}
+use Rattle.smt_laws.specs.Sound.{IsDefinition}
+use Rattle.smt_laws.specs.Laws as laws
+use Rattle.smt_laws.specs.Laws.{MakesFormulas, MakesDefinitions, KeepsDefinitions}
 use Rattle.smt_commands.specs.declared.command.Command.{Command}
 use Rattle.smt_commands.specs.declared.command.Command.TheVariants.{Silent, Unsupported, Assert, Push, Pop, CheckSat, GetInfo, Reset, ResetAssertions, Exit}
 use Rattle.smt_commands.specs.declared.named.Named.{Named}

@@ -1,11 +1,11 @@
 -- What stands and the levels stay right when more is declared, and when levels are opened and closed.
 use Rattle.std.proofs.Common.{◌≡◌, ℕ, zero, suc, List, [], ◌∷◌, ◌++◌, length, take, drop, reverse, replicate, get_or, ⊎_elim, sym, ap, subst, ◌∙◌, append_assoc, append-nil, length-append, take-append-drop, take_all, get_or-drop, add-zero, arith}
 use Rattle.std.proofs.lemmas.List.{take-append-le, reverse-append}
-use Rattle.term_table.specs.ListLaws.{push_cases}
+use Rattle.graph_terms.specs.ListLaws.{push_cases}
 use Rattle.smt_names.specs.declared.level.Level.{Level}
 use Rattle.smt_names.specs.Names.{Declared, Defined}
-use Rattle.shape_laws.specs.Sound.{IsFunction, IsDefinition, AreDeclared}
-use Rattle.shape_laws.specs.Laws.{KeepsDefinitions}
+use Rattle.smt_laws.specs.Sound.{IsFunction, IsDefinition, AreDeclared}
+use Rattle.smt_laws.specs.Laws.{KeepsDefinitions}
 use Rattle.smt_commands.specs.SessionLaws.{AreSoundLevels}
 
 -- Declarations.

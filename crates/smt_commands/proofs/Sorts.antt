@@ -3,7 +3,7 @@ use Rattle.std.proofs.Common.{◌≡◌, ℕ, ◌<◌, List, [], ◌∷◌, ◌+
 use Rattle.std.proofs.lemmas.List.{append-nil}
 use Rattle.smt_text.specs.Word.{Word}
 use Rattle.smt_text.specs.declared.token.Place.{Place}
-use Rattle.formula_shape.specs.Draft.{Draft}
+use Rattle.formula_draft.specs.Draft.{Draft}
 use Rattle.smt_names.specs.declared.stop.Stop.{Stop}
 use Rattle.smt_names.specs.declared.stop.Stop.TheVariants as stop
 use Rattle.smt_names.specs.declared.syntax_fault.SyntaxFault.{SyntaxFault}

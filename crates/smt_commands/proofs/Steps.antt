@@ -4,11 +4,11 @@ use Rattle.std.proofs.lemmas.Grind.{common_steps}
 use Rattle.smt_text.specs.Word.{Word}
 use Rattle.smt_text.specs.declared.token.Kind.{Kind}
 use Rattle.smt_text.specs.declared.token.Place.{Place}
-use Rattle.formula_shape.specs.Draft.{Draft}
+use Rattle.formula_draft.specs.Draft.{Draft}
 use Rattle.smt_names.specs.declared.stop.Stop.{Stop}
 use Rattle.smt_names.specs.declared.stop.Stop.TheVariants as stop
 use Rattle.smt_names.specs.declared.syntax_fault.SyntaxFault.{SyntaxFault}
-use Rattle.formula_shape.specs.Draft.{empty_draft}
+use Rattle.formula_draft.specs.Draft.{empty_draft}
 use Rattle.smt_names.specs.declared.refusal.Refusal.{Refusal}
 use Rattle.smt_names.specs.Making.{Making, made, then_from, ◌>>=◌, fault_of, want}
 use Rattle.smt_names.specs.Makes.{Checks, Makes, Refuses, StopsWith}
@@ -72,7 +72,7 @@ wanted test refusal place draft holds = rw holds refl
 pub not_zero : (n : ℕ) → (n ≡ 0 → ⊥) → (n == 0) ≡ false
 not_zero n other = grind (arith, common_steps)
 
--- the shape of a command begins so
+-- the formula of a command begins so
 abbrev pub draft_of : State → Draft
 draft_of state = empty_draft state.limits.terms state.limits.nodes
 

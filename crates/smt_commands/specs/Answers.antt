@@ -1,7 +1,7 @@
 -- What calls answer that read commands.
 use Rattle.std.specs.Prelude.{◌≡◌, ℕ, List, Result, Ok, Err}
 use Rattle.smt_text.specs.Word.{Word}
-use Rattle.formula_shape.specs.Draft.{Draft}
+use Rattle.formula_draft.specs.Draft.{Draft}
 use Rattle.smt_names.specs.Making.{Making}
 use Rattle.smt_terms.specs.Meant.{Listed}
 use Rattle.smt_terms.specs.Cursor.{word_at, here}

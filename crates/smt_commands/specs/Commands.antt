@@ -4,7 +4,7 @@ use Rattle.std.specs.List.{list_any}
 use Rattle.smt_text.specs.Word.{Word}
 use Rattle.smt_text.specs.Trees.{tree_of}
 use Rattle.smt_text.specs.declared.token.Place.{Place}
-use Rattle.formula_shape.specs.Draft.{Draft, empty_draft, finished}
+use Rattle.formula_draft.specs.Draft.{Draft, empty_draft, finished}
 use Rattle.smt_names.specs.declared.value.Value.{Value}
 use Rattle.smt_names.specs.declared.bound.Bound.{Bound}
 use Rattle.smt_names.specs.declared.syntax_fault.SyntaxFault.{SyntaxFault}
@@ -454,7 +454,7 @@ abbrev pub without_draft : Result (Answer × Draft) SyntaxFault → Result Answe
 without_draft (Ok done) = Ok done.0
 without_draft (Err fault) = Err fault
 
--- What is answered in a state, where no shape is begun.
+-- What is answered in a state, where no formula is begun.
 abbrev pub begun : State → Making Answer → Result Answer SyntaxFault
 begun state making = without_draft (making (empty_draft state.limits.terms state.limits.nodes))
 

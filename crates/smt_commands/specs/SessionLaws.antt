@@ -1,11 +1,11 @@
 -- What stands in a session is right, and every command keeps it so.
 use Rattle.std.specs.Prelude.{◌≡◌, ◌≤◌, List, [], ◌∷◌, length, take, reverse, Ok}
 use Rattle.smt_text.specs.Word.{Word}
-use Rattle.formula_shape.specs.Draft.{Formula, IsFormula}
+use Rattle.formula_draft.specs.Draft.{Formula, IsFormula}
 use Rattle.smt_names.specs.declared.level.Level.{Level}
 use Rattle.smt_names.specs.Names.{State, Declared, Defined}
-use Rattle.shape_laws.specs.Sorted.{IsTruth}
-use Rattle.shape_laws.specs.Sound.{AreDeclared}
+use Rattle.smt_laws.specs.Sorted.{IsTruth}
+use Rattle.smt_laws.specs.Sound.{AreDeclared}
 use Rattle.smt_commands.specs.declared.command.Command.TheVariants.{Assert}
 use Rattle.smt_commands.specs.Commands.{Answer, elaborate}
 
@@ -23,7 +23,7 @@ pub record IsSound (state : State) : Type 0 where
   pub declared : AreDeclared state.functions state.definitions
   pub levels : AreSoundLevels state.functions state.definitions (reverse state.levels)
 
--- where the command asserts a shape, the shape is a formula, sorted as the functions are declared
+-- where the command asserts a formula, the formula is a formula, sorted as the functions are declared
 abbrev pub AssertsTruth : Answer → Type 0
 AssertsTruth answer = (formula : Formula) → answer.command ≡ Assert formula → IsFormula formula × IsTruth answer.state.functions [] formula.rows formula.nodes formula.foralls formula.root
 

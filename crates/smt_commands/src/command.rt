@@ -1,7 +1,7 @@
 //! Commands.
 
 use crate::info::Info;
-use formula_shape::Shape;
+use formula_draft::Formula;
 
 /// A command that was read.
 #[derive(Drop)]
@@ -11,7 +11,7 @@ pub enum Command {
     /// Something that is not supported.
     Unsupported,
     /// A formula is asserted.
-    Assert { shape: Shape },
+    Assert { formula: Formula },
     /// So many levels more.
     Push { count: u32 },
     /// So many levels less.

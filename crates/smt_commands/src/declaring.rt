@@ -18,7 +18,7 @@ use smt_names::{Refusal, SessionState, Signature, Stop};
 use smt_terms::{behind_one, check_exactly, place_at, text_at};
 use smt_text::{Place, Tree};
 use std::alloc::Global;
-use term_table::Numbers;
+use graph_terms::Numbers;
 
 /// Whether a token is the name of the option that success is printed.
 fn is_success_key(tree: &Tree, i: u32) -> bool

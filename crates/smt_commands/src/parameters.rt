@@ -2,7 +2,7 @@
 ghost use Rattle.std.specs.Prelude.{◌≡◌, Ok};
 ghost use Rattle.smt_names.specs.Makes.{Checks, MakesItems};
 ghost use Rattle.smt_terms.specs.Terms.{variables_from};
-ghost use Rattle.formula_shape.specs.Draft.{Draft};
+ghost use Rattle.formula_draft.specs.Draft.{Draft};
 ghost use Rattle.smt_terms.specs.Cursor.{here};
 ghost use Rattle.smt_commands.specs.Commands.{few_bindings, parameters_first, parameters_of};
 ghost use Rattle.smt_commands.specs.Parameters.{parameter_sorts, HasParameters};
@@ -14,7 +14,7 @@ use smt_terms::{
 };
 use smt_text::{Place, Tree};
 use std::alloc::Global;
-use term_table::Numbers;
+use graph_terms::Numbers;
 
 /// The parameters of a definition: as bound names, and their sorts.
 #[derive(Drop)]

@@ -2,7 +2,7 @@
 ghost use Rattle.std.specs.Prelude.{◌≡◌, ◌||◌, OnOk, None, not};
 ghost use Rattle.smt_names.specs.Names.{is_keyword, is_wide as wide, head_of, new_function_name, new_sort_name, sort_number};
 ghost use Rattle.smt_names.specs.Makes.{Checks, MakesItems};
-ghost use Rattle.formula_shape.specs.Draft.{Draft};
+ghost use Rattle.formula_draft.specs.Draft.{Draft};
 ghost use Rattle.smt_terms.specs.Checks.{ChecksAs};
 ghost use Rattle.smt_terms.specs.Cursor.{here, word_at};
 ghost use Rattle.smt_terms.specs.Meant.{first_place, list_first, sort_first, token_first};
@@ -18,7 +18,7 @@ use smt_terms::{
 };
 use smt_text::{Place, Tree};
 use std::alloc::Global;
-use term_table::Numbers;
+use graph_terms::Numbers;
 
 /// The place of the tree that comes next, and this one where none does.
 pub(crate) fn first_place_at(tree: &Tree, i: u32, none: Place) -> Place

@@ -13,7 +13,7 @@ use crate::named::{Named, command_named};
 use crate::reading::{ask, get_info, set_info, set_logic};
 use crate::terms::{assert_truth, define_fun};
 use em_outside::Limits;
-use shape_laws::laws::{definition_law, formula_law};
+use smt_laws::laws::{definition_law, formula_law};
 use smt_names::{Refusal, SessionState, Stop, is_symbol};
 use smt_terms::{Seen, kind_at, look, place_at, text_at};
 use smt_text::{Place, Tree};

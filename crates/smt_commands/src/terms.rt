@@ -15,8 +15,8 @@ use crate::command::Command;
 use crate::declaring::check_named;
 use crate::parameters::{Parameters, parameters_at};
 use crate::parts::{first_place_at, sort_at};
-use formula_shape::ShapeDraft;
-use shape_laws::laws::formula_law;
+use formula_draft::FormulaDraft;
+use smt_laws::laws::formula_law;
 use smt_names::{BoundNames, Definition, Refusal, SessionState, Stop, Value};
 use smt_terms::{Inside, behind_one, behind_some, check_exactly, elaborate_term, text_at};
 use smt_text::{Place, Tree};
@@ -32,7 +32,7 @@ fn has_sort(value: Value, sort: u32) -> bool
 /// The value of the tree that comes next, which must have this sort.
 fn sorted_value_at(
     alloc: Global,
-    draft: &mut ShapeDraft,
+    draft: &mut FormulaDraft,
     state: &SessionState,
     tree: &Tree,
     bound: &mut BoundNames,
@@ -97,7 +97,7 @@ fn define_by(
         Err(stop) => Err(stop),
         Ok(sort) => {
             let limits = state.limits();
-            let mut draft = ShapeDraft::new(alloc, limits.terms, limits.nodes);
+            let mut draft = FormulaDraft::new(alloc, limits.terms, limits.nodes);
             match sorted_value_at(
                 alloc, &mut draft, state, tree, &mut bound, inside, given, head, sort,
             ) {
@@ -153,7 +153,7 @@ fn assert_term(
 {
     formula_law();
     let limits = state.limits();
-    let mut draft = ShapeDraft::new(alloc, limits.terms, limits.nodes);
+    let mut draft = FormulaDraft::new(alloc, limits.terms, limits.nodes);
     let mut bound = BoundNames::new(alloc);
     let inside = Inside {
         in_forall: false,
@@ -164,8 +164,8 @@ fn assert_term(
     ) {
         Err(stop) => Err(stop),
         Ok(value) => {
-            let shape = draft.finish(value.node());
-            Ok(Command::Assert { shape })
+            let formula = draft.finish(value.node());
+            Ok(Command::Assert { formula })
         }
     }
 }

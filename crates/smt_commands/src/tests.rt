@@ -1,7 +1,7 @@
 //! A session in which each command is answered, and refusals with their places and names.
 use crate::{Command, Info, Session};
 use em_outside::{Limits, SureSource};
-use formula_shape::Shape;
+use formula_draft::Formula;
 use smt_names::{Refusal, Stop};
 use smt_text::TreeReader;
 use std::alloc::Global;
@@ -13,7 +13,7 @@ use std::test::Fail;
 enum Came {
     Silent,
     Unsupported,
-    /// A shape of so many rows, nodes and foralls, which is this node.
+    /// A formula of so many rows, nodes and foralls, which is this node.
     Asserts(u32, u32, u32, u32),
     Pushes(u32),
     Pops(u32),
@@ -36,15 +36,15 @@ use Refusal::{
     WrongSort,
 };
 
-fn came_of_shape(shape: &Shape) -> Came {
-    Asserts(shape.rows(), shape.nodes(), shape.foralls(), shape.root())
+fn came_of_formula(formula: &Formula) -> Came {
+    Asserts(formula.rows(), formula.nodes(), formula.foralls(), formula.root())
 }
 
 fn came_of(answer: Result<Command, Stop>) -> Came {
     match answer {
         Ok(Command::Silent) => Silent,
         Ok(Command::Unsupported) => Unsupported,
-        Ok(Command::Assert { shape }) => came_of_shape(&shape),
+        Ok(Command::Assert { formula }) => came_of_formula(&formula),
         Ok(Command::Push { count }) => Pushes(count),
         Ok(Command::Pop { count }) => Pops(count),
         Ok(Command::CheckSat) => Checks,

@@ -1,11 +1,11 @@
 -- The definitions on single forms.
 use Rattle.std.proofs.Common.{◌≡◌, ℕ, true, false, List, [], ◌∷◌, ◌++◌, Option, Some, None, Result, Ok, Err, refl, codes}
 use Rattle.smt_text.specs.declared.token.Place.{Place}
-use Rattle.formula_shape.specs.declared.shape_row.ShapeRow.{ShapeRow}
-use Rattle.formula_shape.specs.declared.shape_row.ShapeRow.TheVariants.{Var, App}
-use Rattle.formula_shape.specs.declared.shape_node.ShapeNode.{ShapeNode}
-use Rattle.formula_shape.specs.declared.shape_node.ShapeNode.TheVariants.{Equal, Atom, And, Or}
-use Rattle.formula_shape.specs.Draft.{Draft, empty_draft}
+use Rattle.formula_draft.specs.declared.draft_row.DraftRow.{DraftRow}
+use Rattle.formula_draft.specs.declared.draft_row.DraftRow.TheVariants.{Var, App}
+use Rattle.formula_draft.specs.declared.draft_node.DraftNode.{DraftNode}
+use Rattle.formula_draft.specs.declared.draft_node.DraftNode.TheVariants.{Equal, Atom, And, Or}
+use Rattle.formula_draft.specs.Draft.{Draft, empty_draft}
 use Rattle.smt_names.specs.declared.value.Value.{Value}
 use Rattle.smt_names.specs.declared.value.Value.TheVariants.{Term, Formula}
 use Rattle.smt_names.specs.declared.arg.Arg.{Arg}
@@ -28,7 +28,7 @@ at = column 1
 abbrev none : Draft
 none = empty_draft 100 100
 
-abbrev nodes : List ShapeNode → Draft
+abbrev nodes : List DraftNode → Draft
 nodes ns = record none { nodes = ns }
 
 abbrev a : Value
@@ -56,7 +56,7 @@ u = Term 5 1
 abbrev two : ℕ → ℕ → List ℕ
 two m n = m ∷ n ∷ []
 
-abbrev done : Value → List ShapeNode → Result (Value × Draft) SyntaxFault
+abbrev done : Value → List DraftNode → Result (Value × Draft) SyntaxFault
 done value ns = Ok (value, nodes ns)
 
 truth : connected at core.True [] none ≡ done (Formula 0 (Some 1)) (And [] ∷ Or [] ∷ [])
@@ -91,7 +91,7 @@ implication_alone : connected at core.Implies (a ∷ alone ∷ []) none ≡ done
 unfolding connected
 implication_alone = refl
 
-abbrev four : List ShapeNode
+abbrev four : List DraftNode
 four = Or (two 3 5) ∷ Or (two 4 6) ∷ Or (two 3 6) ∷ Or (two 4 5) ∷ []
 
 either : connected at core.Xor (a ∷ b ∷ []) none ≡ done (Formula 4 (Some 5)) (four ++ And (two 0 1) ∷ And (two 2 3) ∷ [])

@@ -1,9 +1,9 @@
--- What each form of a formula puts into a shape, in this order.
+-- What each form of a formula puts into a formula, in this order.
 use Rattle.std.specs.Prelude.{◌≡◌, ℕ, ◌==◌, if◌then◌else◌, Bool, true, false, cond, ◌&&◌, List, [], ◌∷◌, ◌++◌, map, Option, Some, None, option_map}
 use Rattle.smt_text.specs.declared.token.Place.{Place}
-use Rattle.formula_shape.specs.declared.shape_row.ShapeRow.TheVariants.{App}
-use Rattle.formula_shape.specs.declared.shape_node.ShapeNode.{ShapeNode}
-use Rattle.formula_shape.specs.declared.shape_node.ShapeNode.TheVariants.{Equal, Atom, And, Or}
+use Rattle.formula_draft.specs.declared.draft_row.DraftRow.TheVariants.{App}
+use Rattle.formula_draft.specs.declared.draft_node.DraftNode.{DraftNode}
+use Rattle.formula_draft.specs.declared.draft_node.DraftNode.TheVariants.{Equal, Atom, And, Or}
 use Rattle.smt_names.specs.declared.value.Value.{Value}
 use Rattle.smt_names.specs.declared.value.Value.TheVariants.{Term, Formula}
 use Rattle.smt_names.specs.declared.connective.Connective.{Connective}
@@ -24,7 +24,7 @@ abbrev pub complements : List Value → Option (List ℕ)
 complements parts = cond (all_have_complements parts) (Some (map other parts)) None
 
 -- a formula by its node and, where there is one, the node of its complement
-abbrev pub both : Place → ShapeNode → Option ShapeNode → Making Value
+abbrev pub both : Place → DraftNode → Option DraftNode → Making Value
 both at itself against = do
   n ← node at itself
   c ← node_if at against
@@ -62,7 +62,7 @@ implies_form at parts = both at (Or (implied parts)) (option_map And (refuted pa
 abbrev pub or_of : Place → ℕ → ℕ → Making ℕ
 or_of at a b = node at (Or (a ∷ b ∷ []))
 
-abbrev pub and_of : ℕ → ℕ → ShapeNode
+abbrev pub and_of : ℕ → ℕ → DraftNode
 and_of a b = And (a ∷ b ∷ [])
 
 -- the four nodes on which xor and = of two formulas stand
@@ -164,7 +164,7 @@ distinct_form at (a ∷ b ∷ []) = distinct_of_two at a b
 distinct_form at (a ∷ b ∷ c ∷ parts) = distinct_of_many at a (a ∷ b ∷ c ∷ parts)
 
 -- the complement of an ite, where both branches have one
-abbrev pub ite_complement : Place → Value → Option (List ℕ) → Making (Option ShapeNode)
+abbrev pub ite_complement : Place → Value → Option (List ℕ) → Making (Option DraftNode)
 ite_complement at c (Some (a ∷ b ∷ [])) = do
   first ← or_of at (other c) a
   second ← or_of at (self c) b

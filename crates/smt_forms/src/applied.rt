@@ -12,7 +12,7 @@ use crate::connected::put_connected;
 use crate::forms::put_application;
 use crate::moved::put_unfolded;
 use crate::parts::values_of;
-use formula_shape::ShapeDraft;
+use formula_draft::FormulaDraft;
 use smt_names::{Arg, Connective, Definition, Head, Refusal, SessionState, Signature, Stop, Value};
 use smt_text::Place;
 use std::alloc::Global;
@@ -75,7 +75,7 @@ fn check_definition(
 #[tactic(auto, unfolding(crate::specs::Applied::applied))]
 fn apply_core(
     alloc: Global,
-    draft: &mut ShapeDraft,
+    draft: &mut FormulaDraft,
     at: Place,
     head: Place,
     called: &[u8],
@@ -93,7 +93,7 @@ fn apply_core(
 #[tactic(auto, unfolding(crate::specs::Applied::applied))]
 fn apply_function(
     alloc: Global,
-    draft: &mut ShapeDraft,
+    draft: &mut FormulaDraft,
     at: Place,
     head: Place,
     called: &[u8],
@@ -112,7 +112,7 @@ fn apply_function(
 #[tactic(auto, unfolding(crate::specs::Applied::applied))]
 fn apply_unknown(
     alloc: Global,
-    draft: &mut ShapeDraft,
+    draft: &mut FormulaDraft,
     at: Place,
     head: Place,
     called: &[u8],
@@ -129,7 +129,7 @@ fn apply_unknown(
 /// The declared function at a place with its arguments.
 fn apply_function_at(
     alloc: Global,
-    draft: &mut ShapeDraft,
+    draft: &mut FormulaDraft,
     state: &SessionState,
     at: Place,
     head: Place,
@@ -158,7 +158,7 @@ fn apply_function_at(
 #[tactic(auto, unfolding(crate::specs::Applied::applied))]
 fn apply_definition(
     alloc: Global,
-    draft: &mut ShapeDraft,
+    draft: &mut FormulaDraft,
     at: Place,
     head: Place,
     called: &[u8],
@@ -175,7 +175,7 @@ fn apply_definition(
 /// The definition at a place with its arguments.
 fn apply_definition_at(
     alloc: Global,
-    draft: &mut ShapeDraft,
+    draft: &mut FormulaDraft,
     state: &SessionState,
     at: Place,
     head: Place,
@@ -199,7 +199,7 @@ fn apply_definition_at(
 /// place, and last a row or node that there is no room for at `at`. Rows and nodes that were put before a refusal stay.
 pub fn apply(
     alloc: Global,
-    draft: &mut ShapeDraft,
+    draft: &mut FormulaDraft,
     state: &SessionState,
     at: Place,
     head: Place,

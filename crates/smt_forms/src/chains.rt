@@ -7,16 +7,16 @@ use crate::equality::{put_distinct_of_two, put_equal_of_two, put_xor_of_two};
 use crate::forms::put_and;
 use crate::parts::complements_of;
 use crate::put::put_both;
-use formula_shape::{ShapeDraft, ShapeNode};
+use formula_draft::{FormulaDraft, DraftNode};
 use smt_names::{Refusal, Stop, Value};
 use smt_text::Place;
 use std::alloc::Global;
-use term_table::Numbers;
+use graph_terms::Numbers;
 
 /// `xor` of a value and others, from the left.
 fn put_xor_from(
     alloc: Global,
-    draft: &mut ShapeDraft,
+    draft: &mut FormulaDraft,
     at: Place,
     first: &Value,
     parts: &[Value],
@@ -35,7 +35,7 @@ fn put_xor_from(
 /// `xor`.
 pub(crate) fn put_xor(
     alloc: Global,
-    draft: &mut ShapeDraft,
+    draft: &mut FormulaDraft,
     at: Place,
     parts: &[Value],
 ) -> Result<Value, Stop>
@@ -50,7 +50,7 @@ pub(crate) fn put_xor(
 /// The equations of a value and others, each with the next.
 fn put_neighbours(
     alloc: Global,
-    draft: &mut ShapeDraft,
+    draft: &mut FormulaDraft,
     at: Place,
     first: &Value,
     parts: &[Value],
@@ -72,7 +72,7 @@ fn put_neighbours(
 /// A value and others, each equal to the next.
 fn put_all_equal(
     alloc: Global,
-    draft: &mut ShapeDraft,
+    draft: &mut FormulaDraft,
     at: Place,
     first: &Value,
     parts: &[Value],
@@ -86,7 +86,7 @@ fn put_all_equal(
 /// `=`.
 pub(crate) fn put_equal(
     alloc: Global,
-    draft: &mut ShapeDraft,
+    draft: &mut FormulaDraft,
     at: Place,
     parts: &[Value],
 ) -> Result<Value, Stop>
@@ -103,7 +103,7 @@ pub(crate) fn put_equal(
 /// A value is distinct from each of others.
 fn put_distinct_from(
     alloc: Global,
-    draft: &mut ShapeDraft,
+    draft: &mut FormulaDraft,
     at: Place,
     first: &Value,
     parts: &[Value],
@@ -123,7 +123,7 @@ fn put_distinct_from(
 /// Each value is distinct from each that follows.
 fn put_distinct_pairs(
     alloc: Global,
-    draft: &mut ShapeDraft,
+    draft: &mut FormulaDraft,
     at: Place,
     parts: &[Value],
 ) -> Result<Vec<Value>, Stop>
@@ -143,7 +143,7 @@ fn put_distinct_pairs(
 /// Three formulas or more, which are never all different.
 fn put_never(
     alloc: Global,
-    draft: &mut ShapeDraft,
+    draft: &mut FormulaDraft,
     at: Place,
     parts: &[Value],
 ) -> Result<Value, Stop>
@@ -151,15 +151,15 @@ fn put_never(
 {
     let none = Numbers::from_slice(alloc, &[])?;
     match complements_of(alloc, parts)? {
-        None => put_both(alloc, draft, at, ShapeNode::Or { parts: none }, None),
+        None => put_both(alloc, draft, at, DraftNode::Or { parts: none }, None),
         Some(_) => {
             let also_none = Numbers::from_slice(alloc, &[])?;
-            let against = ShapeNode::And { parts: also_none };
+            let against = DraftNode::And { parts: also_none };
             put_both(
                 alloc,
                 draft,
                 at,
-                ShapeNode::Or { parts: none },
+                DraftNode::Or { parts: none },
                 Some(against),
             )
         }
@@ -169,7 +169,7 @@ fn put_never(
 /// Values of which each differs from each that follows.
 fn put_all_distinct(
     alloc: Global,
-    draft: &mut ShapeDraft,
+    draft: &mut FormulaDraft,
     at: Place,
     parts: &[Value],
 ) -> Result<Value, Stop>
@@ -182,7 +182,7 @@ fn put_all_distinct(
 /// `distinct` of three or more, by the first of them.
 fn put_distinct_of_many(
     alloc: Global,
-    draft: &mut ShapeDraft,
+    draft: &mut FormulaDraft,
     at: Place,
     first: &Value,
     parts: &[Value],
@@ -198,7 +198,7 @@ fn put_distinct_of_many(
 /// `distinct`.
 pub(crate) fn put_distinct(
     alloc: Global,
-    draft: &mut ShapeDraft,
+    draft: &mut FormulaDraft,
     at: Place,
     parts: &[Value],
 ) -> Result<Value, Stop>

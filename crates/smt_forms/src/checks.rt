@@ -7,7 +7,7 @@ ghost use Rattle.smt_forms.specs.Applied.{arity_of, sort_at, wanted_by, right_so
 use smt_names::{Arg, Connective, Refusal, Stop, Value};
 use smt_text::Place;
 use std::alloc::Global;
-use term_table::Memory;
+use graph_terms::Memory;
 
 /// Whether a connective takes so many parts.
 pub(crate) fn takes(connective: Connective, count: usize) -> bool

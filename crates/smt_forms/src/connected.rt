@@ -6,13 +6,13 @@ ghost use Rattle.smt_forms.specs.Nodes.{connected, not_form};
 use crate::chains::{put_distinct, put_equal, put_xor};
 use crate::forms::{put_and, put_implies, put_or, put_true};
 use crate::ite::put_ite;
-use formula_shape::ShapeDraft;
+use formula_draft::FormulaDraft;
 use smt_names::{Connective, Refusal, Stop, Value};
 use smt_text::Place;
 use std::alloc::Global;
 
 /// `not`.
-fn put_not(alloc: Global, draft: &mut ShapeDraft, at: Place, parts: &[Value]) -> Result<Value, Stop>
+fn put_not(alloc: Global, draft: &mut FormulaDraft, at: Place, parts: &[Value]) -> Result<Value, Stop>
     ensures { Makes result draft.old draft.new (not_form at parts.now) }
 {
     let _rows = draft.rows();
@@ -26,7 +26,7 @@ fn put_not(alloc: Global, draft: &mut ShapeDraft, at: Place, parts: &[Value]) ->
 #[tactic(auto, unfolding(crate::specs::Nodes::connected))]
 pub(crate) fn put_connected(
     alloc: Global,
-    draft: &mut ShapeDraft,
+    draft: &mut FormulaDraft,
     at: Place,
     connective: Connective,
     parts: &[Value],

@@ -5,16 +5,16 @@ ghost use Rattle.smt_forms.specs.Nodes.{or_of, and_of, crossed, xor_of_two, same
 
 use crate::crossed::Crossed;
 use crate::put::{put_both, put_node};
-use formula_shape::{ShapeDraft, ShapeNode};
+use formula_draft::{FormulaDraft, DraftNode};
 use smt_names::{Stop, Value};
 use smt_text::Place;
 use std::alloc::Global;
-use term_table::{Memory, Numbers};
+use graph_terms::{Memory, Numbers};
 
 /// A disjunction of two nodes.
 pub(crate) fn put_or_of(
     alloc: Global,
-    draft: &mut ShapeDraft,
+    draft: &mut FormulaDraft,
     at: Place,
     left: u32,
     right: u32,
@@ -22,21 +22,21 @@ pub(crate) fn put_or_of(
     ensures { Makes result draft.old draft.new (or_of at left right) }
 {
     let parts = Numbers::from_slice(alloc, &[left, right])?;
-    put_node(alloc, draft, at, ShapeNode::Or { parts })
+    put_node(alloc, draft, at, DraftNode::Or { parts })
 }
 
 /// A conjunction of two nodes, not put yet.
-pub(crate) fn and_of(alloc: Global, left: u32, right: u32) -> Result<ShapeNode, Memory>
+pub(crate) fn and_of(alloc: Global, left: u32, right: u32) -> Result<DraftNode, Memory>
     ensures { IfOk result (λ new. new ≡ and_of left right) }
 {
     let parts = Numbers::from_slice(alloc, &[left, right])?;
-    Ok(ShapeNode::And { parts })
+    Ok(DraftNode::And { parts })
 }
 
 /// The four disjunctions of two formulas and their complements.
 fn put_crossed(
     alloc: Global,
-    draft: &mut ShapeDraft,
+    draft: &mut FormulaDraft,
     at: Place,
     a: &Value,
     b: &Value,
@@ -53,7 +53,7 @@ fn put_crossed(
 /// One of two formulas, and not both.
 pub(crate) fn put_xor_of_two(
     alloc: Global,
-    draft: &mut ShapeDraft,
+    draft: &mut FormulaDraft,
     at: Place,
     a: &Value,
     b: &Value,
@@ -69,7 +69,7 @@ pub(crate) fn put_xor_of_two(
 /// Both formulas, or none.
 fn put_same_truth(
     alloc: Global,
-    draft: &mut ShapeDraft,
+    draft: &mut FormulaDraft,
     at: Place,
     a: &Value,
     b: &Value,
@@ -85,7 +85,7 @@ fn put_same_truth(
 /// `=` of two values of one sort.
 pub(crate) fn put_equal_of_two(
     alloc: Global,
-    draft: &mut ShapeDraft,
+    draft: &mut FormulaDraft,
     at: Place,
     a: &Value,
     b: &Value,
@@ -97,12 +97,12 @@ pub(crate) fn put_equal_of_two(
         Value::Term { row, .. } => {
             let left = *row;
             let right = b.row();
-            let itself = ShapeNode::Equal {
+            let itself = DraftNode::Equal {
                 positive: true,
                 left,
                 right,
             };
-            let against = ShapeNode::Equal {
+            let against = DraftNode::Equal {
                 positive: false,
                 left,
                 right,
@@ -115,7 +115,7 @@ pub(crate) fn put_equal_of_two(
 /// `distinct` of two values of one sort.
 pub(crate) fn put_distinct_of_two(
     alloc: Global,
-    draft: &mut ShapeDraft,
+    draft: &mut FormulaDraft,
     at: Place,
     a: &Value,
     b: &Value,

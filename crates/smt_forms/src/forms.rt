@@ -6,14 +6,14 @@ ghost use Rattle.smt_forms.specs.Nodes.{true_form, and_form, or_form, implies_fo
 
 use crate::parts::{complements_of, rows_of, selves_of};
 use crate::put::{put_both, put_row};
-use formula_shape::{ShapeDraft, ShapeNode, ShapeRow};
+use formula_draft::{FormulaDraft, DraftNode, DraftRow};
 use smt_names::{Stop, Value};
 use smt_text::Place;
 use std::alloc::Global;
-use term_table::{Memory, Numbers};
+use graph_terms::{Memory, Numbers};
 
 /// `true`.
-pub(crate) fn put_true(alloc: Global, draft: &mut ShapeDraft, at: Place) -> Result<Value, Stop>
+pub(crate) fn put_true(alloc: Global, draft: &mut FormulaDraft, at: Place) -> Result<Value, Stop>
     ensures { Makes result draft.old draft.new (true_form at) }
 {
     let none = Numbers::from_slice(alloc, &[])?;
@@ -22,15 +22,15 @@ pub(crate) fn put_true(alloc: Global, draft: &mut ShapeDraft, at: Place) -> Resu
         alloc,
         draft,
         at,
-        ShapeNode::And { parts: none },
-        Some(ShapeNode::Or { parts: also_none }),
+        DraftNode::And { parts: none },
+        Some(DraftNode::Or { parts: also_none }),
     )
 }
 
 /// `and`.
 pub(crate) fn put_and(
     alloc: Global,
-    draft: &mut ShapeDraft,
+    draft: &mut FormulaDraft,
     at: Place,
     parts: &[Value],
 ) -> Result<Value, Stop>
@@ -38,14 +38,14 @@ pub(crate) fn put_and(
 {
     let selves = selves_of(alloc, parts)?;
     match complements_of(alloc, parts)? {
-        None => put_both(alloc, draft, at, ShapeNode::And { parts: selves }, None),
+        None => put_both(alloc, draft, at, DraftNode::And { parts: selves }, None),
         Some(others) => {
-            let against = ShapeNode::Or { parts: others };
+            let against = DraftNode::Or { parts: others };
             put_both(
                 alloc,
                 draft,
                 at,
-                ShapeNode::And { parts: selves },
+                DraftNode::And { parts: selves },
                 Some(against),
             )
         }
@@ -55,7 +55,7 @@ pub(crate) fn put_and(
 /// `or`.
 pub(crate) fn put_or(
     alloc: Global,
-    draft: &mut ShapeDraft,
+    draft: &mut FormulaDraft,
     at: Place,
     parts: &[Value],
 ) -> Result<Value, Stop>
@@ -63,14 +63,14 @@ pub(crate) fn put_or(
 {
     let selves = selves_of(alloc, parts)?;
     match complements_of(alloc, parts)? {
-        None => put_both(alloc, draft, at, ShapeNode::Or { parts: selves }, None),
+        None => put_both(alloc, draft, at, DraftNode::Or { parts: selves }, None),
         Some(others) => {
-            let against = ShapeNode::And { parts: others };
+            let against = DraftNode::And { parts: others };
             put_both(
                 alloc,
                 draft,
                 at,
-                ShapeNode::Or { parts: selves },
+                DraftNode::Or { parts: selves },
                 Some(against),
             )
         }
@@ -118,7 +118,7 @@ fn refuted_of(alloc: Global, parts: &[Value]) -> Result<Option<Numbers>, Memory>
 /// `=>`.
 pub(crate) fn put_implies(
     alloc: Global,
-    draft: &mut ShapeDraft,
+    draft: &mut FormulaDraft,
     at: Place,
     parts: &[Value],
 ) -> Result<Value, Stop>
@@ -126,14 +126,14 @@ pub(crate) fn put_implies(
 {
     let implied = implied_of(alloc, parts)?;
     match refuted_of(alloc, parts)? {
-        None => put_both(alloc, draft, at, ShapeNode::Or { parts: implied }, None),
+        None => put_both(alloc, draft, at, DraftNode::Or { parts: implied }, None),
         Some(refuted) => {
-            let against = ShapeNode::And { parts: refuted };
+            let against = DraftNode::And { parts: refuted };
             put_both(
                 alloc,
                 draft,
                 at,
-                ShapeNode::Or { parts: implied },
+                DraftNode::Or { parts: implied },
                 Some(against),
             )
         }
@@ -143,7 +143,7 @@ pub(crate) fn put_implies(
 /// An application of a declared function.
 pub(crate) fn put_application(
     alloc: Global,
-    draft: &mut ShapeDraft,
+    draft: &mut FormulaDraft,
     at: Place,
     symbol: u32,
     sort: u32,
@@ -152,13 +152,13 @@ pub(crate) fn put_application(
     ensures { Makes result draft.old draft.new (application at symbol sort parts.now) }
 {
     let args = rows_of(alloc, parts)?;
-    let row = put_row(alloc, draft, at, ShapeRow::App { symbol, args })?;
+    let row = put_row(alloc, draft, at, DraftRow::App { symbol, args })?;
     if sort == 0 {
-        let itself = ShapeNode::Atom {
+        let itself = DraftNode::Atom {
             positive: true,
             row,
         };
-        let against = ShapeNode::Atom {
+        let against = DraftNode::Atom {
             positive: false,
             row,
         };

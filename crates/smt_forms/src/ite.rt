@@ -5,7 +5,7 @@ ghost use Rattle.smt_forms.specs.Nodes.{ite_form, ite_of_three, ite_complement, 
 
 use crate::equality::{and_of, put_or_of};
 use crate::put::put_both;
-use formula_shape::{ShapeDraft, ShapeNode};
+use formula_draft::{FormulaDraft, DraftNode};
 use smt_names::{Refusal, Stop, Value};
 use smt_text::Place;
 use std::alloc::Global;
@@ -13,12 +13,12 @@ use std::alloc::Global;
 /// The complement of an `ite`, not put yet, where both branches have one.
 fn put_ite_complement(
     alloc: Global,
-    draft: &mut ShapeDraft,
+    draft: &mut FormulaDraft,
     at: Place,
     c: &Value,
     a: &Value,
     b: &Value,
-) -> Result<Option<ShapeNode>, Stop>
+) -> Result<Option<DraftNode>, Stop>
     ensures { Makes result draft.old draft.new (ite_complement at c.now (complements (a.now ∷ b.now ∷ []))) }
 {
     if a.complement().is_none() {
@@ -36,7 +36,7 @@ fn put_ite_complement(
 /// `ite` of a condition and two branches.
 fn put_ite_of_three(
     alloc: Global,
-    draft: &mut ShapeDraft,
+    draft: &mut FormulaDraft,
     at: Place,
     c: &Value,
     a: &Value,
@@ -54,7 +54,7 @@ fn put_ite_of_three(
 /// `ite`.
 pub(crate) fn put_ite(
     alloc: Global,
-    draft: &mut ShapeDraft,
+    draft: &mut FormulaDraft,
     at: Place,
     parts: &[Value],
 ) -> Result<Value, Stop>

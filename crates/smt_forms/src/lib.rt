@@ -1,4 +1,4 @@
-//! What the forms of formulas and the applications of names put into a shape.
+//! What the forms of formulas and the applications of names put into a formula.
 #![tactic(auto)]
 
 mod applied;

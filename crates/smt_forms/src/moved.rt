@@ -8,11 +8,11 @@ ghost use Rattle.smt_forms.specs.Moved.{moved_numbers, moved_row, moved_rows, mo
 
 use crate::parts::rows_of;
 use crate::put::{put_node, put_row};
-use formula_shape::{ShapeDraft, ShapeNode, ShapeRow};
+use formula_draft::{FormulaDraft, DraftNode, DraftRow};
 use smt_names::{Definition, Stop, Value};
 use smt_text::Place;
 use std::alloc::Global;
-use term_table::{Memory, Numbers};
+use graph_terms::{Memory, Numbers};
 
 /// The number at a place, 0 past the end.
 fn number_at(numbers: &[u32], n: u32) -> u32
@@ -38,17 +38,17 @@ fn move_numbers(alloc: Global, moved: &[u32], numbers: &Numbers) -> Result<Numbe
 /// Puts a row of a definition, with the rows of the arguments and those that the rows before it became.
 fn put_moved_row(
     alloc: Global,
-    draft: &mut ShapeDraft,
+    draft: &mut FormulaDraft,
     at: Place,
     args: &[u32],
     rows: &[u32],
-    row: &ShapeRow,
+    row: &DraftRow,
 ) -> Result<u32, Stop>
     ensures { Makes result draft.old draft.new (moved_row args.now rows.now at row.now) }
 {
     match row {
-        ShapeRow::Var { index } => Ok(number_at(args, *index)),
-        ShapeRow::App {
+        DraftRow::Var { index } => Ok(number_at(args, *index)),
+        DraftRow::App {
             symbol,
             args: numbers,
         } => {
@@ -57,7 +57,7 @@ fn put_moved_row(
                 alloc,
                 draft,
                 at,
-                ShapeRow::App {
+                DraftRow::App {
                     symbol: *symbol,
                     args: moved,
                 },
@@ -67,7 +67,7 @@ fn put_moved_row(
 }
 
 /// The row with this number, the first of those from it on.
-fn row_from(source: &ShapeDraft, i: u32) -> &ShapeRow
+fn row_from(source: &FormulaDraft, i: u32) -> &DraftRow
     requires { i < length source.now.rows }
     ensures { drop i source.now.rows ≡ result.now ∷ drop (i + 1) source.now.rows }
 {
@@ -77,10 +77,10 @@ fn row_from(source: &ShapeDraft, i: u32) -> &ShapeRow
 /// Puts the rows of a definition. The numbers that they get.
 fn put_moved_rows(
     alloc: Global,
-    draft: &mut ShapeDraft,
+    draft: &mut FormulaDraft,
     at: Place,
     args: &[u32],
-    source: &ShapeDraft,
+    source: &FormulaDraft,
 ) -> Result<Vec<u32>, Stop>
     ensures { MakesItems result draft.old draft.new (moved_rows args.now [] at source.now.rows) }
 {
@@ -101,44 +101,44 @@ fn move_node(
     alloc: Global,
     rows: &[u32],
     nodes: &[u32],
-    node: &ShapeNode,
-) -> Result<ShapeNode, Memory>
+    node: &DraftNode,
+) -> Result<DraftNode, Memory>
     ensures { IfOk result (λ moved. moved ≡ moved_node rows.now nodes.now node.now) }
 {
     match node {
-        ShapeNode::Equal {
+        DraftNode::Equal {
             positive,
             left,
             right,
-        } => Ok(ShapeNode::Equal {
+        } => Ok(DraftNode::Equal {
             positive: *positive,
             left: number_at(rows, *left),
             right: number_at(rows, *right),
         }),
-        ShapeNode::Atom { positive, row } => Ok(ShapeNode::Atom {
+        DraftNode::Atom { positive, row } => Ok(DraftNode::Atom {
             positive: *positive,
             row: number_at(rows, *row),
         }),
-        ShapeNode::And { parts } => {
+        DraftNode::And { parts } => {
             let parts = move_numbers(alloc, nodes, parts)?;
-            Ok(ShapeNode::And { parts })
+            Ok(DraftNode::And { parts })
         }
-        ShapeNode::Or { parts } => {
+        DraftNode::Or { parts } => {
             let parts = move_numbers(alloc, nodes, parts)?;
-            Ok(ShapeNode::Or { parts })
+            Ok(DraftNode::Or { parts })
         }
-        ShapeNode::Forall { index } => Ok(ShapeNode::Forall { index: *index }),
+        DraftNode::Forall { index } => Ok(DraftNode::Forall { index: *index }),
     }
 }
 
 /// Puts a node of a definition, with what its rows and the nodes before it became.
 fn put_moved_node(
     alloc: Global,
-    draft: &mut ShapeDraft,
+    draft: &mut FormulaDraft,
     at: Place,
     rows: &[u32],
     nodes: &[u32],
-    node: &ShapeNode,
+    node: &DraftNode,
 ) -> Result<u32, Stop>
     ensures { Makes result draft.old draft.new (node_put_at at (moved_node rows.now nodes.now node.now)) }
 {
@@ -147,7 +147,7 @@ fn put_moved_node(
 }
 
 /// The node with this number, the first of those from it on.
-fn node_from(source: &ShapeDraft, i: u32) -> &ShapeNode
+fn node_from(source: &FormulaDraft, i: u32) -> &DraftNode
     requires { i < length source.now.nodes }
     ensures { drop i source.now.nodes ≡ result.now ∷ drop (i + 1) source.now.nodes }
 {
@@ -157,10 +157,10 @@ fn node_from(source: &ShapeDraft, i: u32) -> &ShapeNode
 /// Puts the nodes of a definition. The numbers that they get.
 fn put_moved_nodes(
     alloc: Global,
-    draft: &mut ShapeDraft,
+    draft: &mut FormulaDraft,
     at: Place,
     rows: &[u32],
-    source: &ShapeDraft,
+    source: &FormulaDraft,
 ) -> Result<Vec<u32>, Stop>
     ensures { MakesItems result draft.old draft.new (moved_nodes rows.now [] at source.now.nodes) }
 {
@@ -198,7 +198,7 @@ fn move_value(rows: &[u32], nodes: &[u32], value: &Value) -> Value
 /// An application of a definition: its rows and then its nodes, with the arguments put in.
 pub(crate) fn put_unfolded(
     alloc: Global,
-    draft: &mut ShapeDraft,
+    draft: &mut FormulaDraft,
     at: Place,
     definition: &Definition,
     parts: &[Value],

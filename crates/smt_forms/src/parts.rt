@@ -6,7 +6,7 @@ ghost use Rattle.smt_forms.specs.Applied.{values_of};
 
 use smt_names::{Arg, Value};
 use std::alloc::Global;
-use term_table::{Memory, Numbers};
+use graph_terms::{Memory, Numbers};
 
 /// What the arguments stand for.
 pub(crate) fn values_of(alloc: Global, args: &[Arg]) -> Result<Vec<Value>, Memory>

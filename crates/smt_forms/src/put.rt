@@ -4,46 +4,46 @@ ghost use Rattle.smt_names.specs.Making.{row, node, node_if};
 ghost use Rattle.smt_names.specs.Makes.{Makes};
 ghost use Rattle.smt_forms.specs.Nodes.{both};
 
-use formula_shape::{ShapeDraft, ShapeFault, ShapeNode, ShapeRow};
+use formula_draft::{FormulaDraft, DraftFault, DraftNode, DraftRow};
 use smt_names::{Refusal, Stop, Value};
 use smt_text::Place;
 use std::alloc::Global;
 
 /// The number of the row, which is put last where it is new.
-pub fn put_row(alloc: Global, draft: &mut ShapeDraft, at: Place, new: ShapeRow) -> Result<u32, Stop>
+pub fn put_row(alloc: Global, draft: &mut FormulaDraft, at: Place, new: DraftRow) -> Result<u32, Stop>
     ensures { Makes result draft.old draft.new (row at new) }
 {
     match draft.row(new) {
         Ok(n) => Ok(n),
-        Err(ShapeFault::RowsFull) => Err(Stop::at(alloc, Refusal::TermsFull, at)),
-        Err(ShapeFault::NodesFull) => Err(Stop::Memory),
-        Err(ShapeFault::Memory) => Err(Stop::Memory),
+        Err(DraftFault::RowsFull) => Err(Stop::at(alloc, Refusal::TermsFull, at)),
+        Err(DraftFault::NodesFull) => Err(Stop::Memory),
+        Err(DraftFault::Memory) => Err(Stop::Memory),
     }
 }
 
 /// The number of the node, which is put last where it is new.
 pub fn put_node(
     alloc: Global,
-    draft: &mut ShapeDraft,
+    draft: &mut FormulaDraft,
     at: Place,
-    new: ShapeNode,
+    new: DraftNode,
 ) -> Result<u32, Stop>
     ensures { Makes result draft.old draft.new (node at new) }
 {
     match draft.node(new) {
         Ok(n) => Ok(n),
-        Err(ShapeFault::NodesFull) => Err(Stop::at(alloc, Refusal::NodesFull, at)),
-        Err(ShapeFault::RowsFull) => Err(Stop::Memory),
-        Err(ShapeFault::Memory) => Err(Stop::Memory),
+        Err(DraftFault::NodesFull) => Err(Stop::at(alloc, Refusal::NodesFull, at)),
+        Err(DraftFault::RowsFull) => Err(Stop::Memory),
+        Err(DraftFault::Memory) => Err(Stop::Memory),
     }
 }
 
 /// Puts a node, where there is one to put.
 pub(crate) fn put_node_if(
     alloc: Global,
-    draft: &mut ShapeDraft,
+    draft: &mut FormulaDraft,
     at: Place,
-    new: Option<ShapeNode>,
+    new: Option<DraftNode>,
 ) -> Result<Option<u32>, Stop>
     ensures { Makes result draft.old draft.new (node_if at new) }
 {
@@ -59,10 +59,10 @@ pub(crate) fn put_node_if(
 /// Puts a formula and, where there is one, its complement.
 pub(crate) fn put_both(
     alloc: Global,
-    draft: &mut ShapeDraft,
+    draft: &mut FormulaDraft,
     at: Place,
-    itself: ShapeNode,
-    against: Option<ShapeNode>,
+    itself: DraftNode,
+    against: Option<DraftNode>,
 ) -> Result<Value, Stop>
     ensures { Makes result draft.old draft.new (both at itself against) }
 {

@@ -1,12 +1,12 @@
 //! Each connective, a declared function and a definition once.
 use crate::*;
 use em_outside::Limits;
-use formula_shape::{ShapeDraft, ShapeNode, ShapeRow};
+use formula_draft::{FormulaDraft, DraftNode, DraftRow};
 use smt_names::{Arg, Connective, Definition, Head, Refusal, SessionState, Signature, Stop, Value};
 use smt_text::{Kind, Place};
 use std::alloc::Global;
 use std::test::Fail;
-use term_table::Numbers;
+use graph_terms::Numbers;
 
 const HERE: Place = Place { line: 1, column: 9 };
 
@@ -29,7 +29,7 @@ fn term(row: u32) -> Arg {
 
 /// How many nodes a connective puts for these arguments, and the node that it is.
 fn count(alloc: Global, connective: Connective, args: &[Arg]) -> Result<(u32, u32), Stop> {
-    let mut draft = ShapeDraft::new(alloc, 100, 100);
+    let mut draft = FormulaDraft::new(alloc, 100, 100);
     let state = SessionState::new(alloc, &Limits::standard());
     let head = Head::Core(connective);
     let value = apply(
@@ -76,8 +76,8 @@ fn declare(alloc: Global, state: &mut SessionState) -> Result<(), Stop> {
 
 /// The atom of the function for a parameter.
 fn atom(alloc: Global, state: &SessionState) -> Result<Definition, Stop> {
-    let mut draft = ShapeDraft::new(alloc, 100, 100);
-    let row = put_row(alloc, &mut draft, HERE, ShapeRow::Var { index: 0 })?;
+    let mut draft = FormulaDraft::new(alloc, 100, 100);
+    let row = put_row(alloc, &mut draft, HERE, DraftRow::Var { index: 0 })?;
     let args = [term(row)];
     let p = b"p".as_slice();
     let head = Head::Function(0);
@@ -103,11 +103,11 @@ fn declared(alloc: Global) -> Result<SessionState, Stop> {
 
 /// A constant, and the definition of it: how many rows and nodes there are, and the node of the value.
 fn defined(alloc: Global, state: &SessionState) -> Result<(u32, u32, u32), Stop> {
-    let mut draft = ShapeDraft::new(alloc, 100, 100);
+    let mut draft = FormulaDraft::new(alloc, 100, 100);
     let args = Numbers::from_slice(alloc, &[])?;
-    let row = put_row(alloc, &mut draft, HERE, ShapeRow::App { symbol: 9, args })?;
+    let row = put_row(alloc, &mut draft, HERE, DraftRow::App { symbol: 9, args })?;
     let parts = Numbers::from_slice(alloc, &[])?;
-    let _truth = put_node(alloc, &mut draft, HERE, ShapeNode::And { parts })?;
+    let _truth = put_node(alloc, &mut draft, HERE, DraftNode::And { parts })?;
     let args = [term(row)];
     let d = b"d".as_slice();
     let head = Head::Definition(0);

@@ -5,7 +5,7 @@ use Rattle.smt_text.specs.declared.token.Place.{Place}
 use Rattle.smt_text.specs.declared.token.Kind.{Kind}
 use Rattle.smt_text.specs.declared.token.Kind.TheVariants.{Symbol, Keyword, Numeral}
 use Rattle.em_outside.specs.declared.limits.Limits.{Limits}
-use Rattle.formula_shape.specs.Draft.{Draft, empty_draft}
+use Rattle.formula_draft.specs.Draft.{Draft, empty_draft}
 use Rattle.smt_names.specs.declared.value.Value.TheVariants.{Term, Formula}
 use Rattle.smt_names.specs.declared.stands.Stands.TheVariants.{Given, Variable}
 use Rattle.smt_names.specs.declared.connective.Connective.TheVariants as core

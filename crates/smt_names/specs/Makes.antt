@@ -1,7 +1,7 @@
--- What a call answers that makes a part of a shape.
+-- What a call answers that makes a part of a formula.
 use Rattle.std.specs.Prelude.{◌≡◌, List, Vec, Result, Ok, Err}
 use Rattle.std.specs.declared.alloc.Global.{Global}
-use Rattle.formula_shape.specs.Draft.{Draft}
+use Rattle.formula_draft.specs.Draft.{Draft}
 use Rattle.smt_names.specs.declared.syntax_fault.SyntaxFault.{SyntaxFault}
 use Rattle.smt_names.specs.declared.stop.Stop.{Stop}
 use Rattle.smt_names.specs.declared.stop.Stop.TheVariants as stop
@@ -17,7 +17,7 @@ abbrev pub Refuses : {A : Type 0} → Stop → Result A SyntaxFault → Type 0
 Refuses stop.Memory made = Unit {0}
 Refuses (stop.Refused fault) made = made ≡ Err fault
 
--- The call made the value and the shape after it, or it was refused so.
+-- The call made the value and the formula after it, or it was refused so.
 abbrev pub Makes : {A : Type 0} → Result A Stop → Draft → Draft → Making A → Type 0
 Makes (Ok value) old new making = making old ≡ Ok (value, new)
 Makes (Err stopped) old new making = Refuses stopped (making old)

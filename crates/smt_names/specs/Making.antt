@@ -1,15 +1,15 @@
--- What takes its part in making a shape.
+-- What takes its part in making a formula.
 use Rattle.std.specs.Prelude.{◌≡◌, ℕ, Bool, cond, List, [], length, Option, Some, None, Result, Ok, Err}
 use Rattle.smt_text.specs.declared.token.Place.{Place}
-use Rattle.formula_shape.specs.declared.shape_row.ShapeRow.{ShapeRow}
-use Rattle.formula_shape.specs.declared.shape_node.ShapeNode.{ShapeNode}
-use Rattle.formula_shape.specs.declared.shape_forall.ShapeForall.{ShapeForall}
-use Rattle.formula_shape.specs.Draft.{Draft, with_row, with_node, with_forall}
+use Rattle.formula_draft.specs.declared.draft_row.DraftRow.{DraftRow}
+use Rattle.formula_draft.specs.declared.draft_node.DraftNode.{DraftNode}
+use Rattle.formula_draft.specs.declared.draft_forall.DraftForall.{DraftForall}
+use Rattle.formula_draft.specs.Draft.{Draft, with_row, with_node, with_forall}
 use Rattle.smt_names.specs.declared.refusal.Refusal.{Refusal}
 use Rattle.smt_names.specs.declared.refusal.Refusal.TheVariants.{BadForm, NotInProfile, TermsFull, NodesFull}
 use Rattle.smt_names.specs.declared.syntax_fault.SyntaxFault.{SyntaxFault}
 
--- What makes a part of a shape gives a value and the shape after it, or is refused.
+-- What makes a part of a formula gives a value and the formula after it, or is refused.
 abbrev pub Making : Type 0 → Type 0
 Making A = Draft → Result (A × Draft) SyntaxFault
 
@@ -17,7 +17,7 @@ Making A = Draft → Result (A × Draft) SyntaxFault
 abbrev pub made : {A : Type 0} → A → Making A
 made value draft = Ok (value, draft)
 
--- what follows goes on with the value and the shape, or the refusal stays
+-- what follows goes on with the value and the formula, or the refusal stays
 abbrev pub then_from : {A B : Type 0} → (A → Making B) → Result (A × Draft) SyntaxFault → Result (B × Draft) SyntaxFault
 then_from rest (Ok done) = rest done.0 done.1
 then_from rest (Err fault) = Err fault
@@ -62,20 +62,20 @@ or_full refusal at (Some done) = Ok done
 or_full refusal at None = Err (fault_of refusal at [])
 
 -- the number of a row that is put at a place of the script, where it does not stand yet
-abbrev pub row : Place → ShapeRow → Making ℕ
+abbrev pub row : Place → DraftRow → Making ℕ
 row at new draft = or_full TermsFull at (with_row new draft)
 
 -- the same of a node
-abbrev pub node : Place → ShapeNode → Making ℕ
+abbrev pub node : Place → DraftNode → Making ℕ
 node at new draft = or_full NodesFull at (with_node new draft)
 
 -- a node, where there is one to put
-abbrev pub node_if : Place → Option ShapeNode → Making (Option ℕ)
+abbrev pub node_if : Place → Option DraftNode → Making (Option ℕ)
 node_if at None = made None
 node_if at (Some new) = do
   n ← node at new
   made (Some n)
 
 -- a forall, which is put last: its number is its place
-abbrev pub put_forall : ShapeForall → Making ℕ
+abbrev pub put_forall : DraftForall → Making ℕ
 put_forall new draft = Ok (length draft.foralls, with_forall new draft)

@@ -6,8 +6,8 @@ use Rattle.smt_text.specs.declared.token.Kind.{Kind}
 use Rattle.smt_text.specs.declared.token.Kind.TheVariants.{Symbol, Keyword, Numeral}
 use Rattle.smt_text.specs.declared.token.Place.{Place}
 use Rattle.em_outside.specs.declared.limits.Limits.{Limits}
-use Rattle.formula_shape.specs.declared.shape_row.ShapeRow.{ShapeRow}
-use Rattle.formula_shape.specs.declared.shape_node.ShapeNode.{ShapeNode}
+use Rattle.formula_draft.specs.declared.draft_row.DraftRow.{DraftRow}
+use Rattle.formula_draft.specs.declared.draft_node.DraftNode.{DraftNode}
 use Rattle.smt_names.specs.declared.connective.Connective.{Connective}
 use Rattle.smt_names.specs.declared.connective.Connective.TheVariants as core
 use Rattle.smt_names.specs.declared.value.Value.{Value}
@@ -32,8 +32,8 @@ pub record Defined : Type 0 where
   pub name : List ℕ
   pub parameters : List ℕ
   pub sort : ℕ
-  pub rows : List ShapeRow
-  pub nodes : List ShapeNode
+  pub rows : List DraftRow
+  pub nodes : List DraftNode
   pub value : Value
 
 -- What stands between two commands: the limits, whether success is printed, the sorts, functions and definitions in the order of

@@ -1,7 +1,7 @@
 //! A bound name.
 
 use crate::stands::Stands;
-use term_table::Name;
+use graph_terms::Name;
 
 /// A bound name, and what it stands for.
 #[derive(Debug, Drop)]

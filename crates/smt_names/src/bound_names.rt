@@ -6,7 +6,7 @@ use crate::bound::Bound;
 use crate::stands::Stands;
 use std::alloc::Global;
 use std::marker::Model;
-use term_table::{Memory, Name};
+use graph_terms::{Memory, Name};
 
 /// The bound names, the outermost first. The last of a name wins.
 #[derive(Drop)]

@@ -1,8 +1,8 @@
 //! A definition.
 
 use crate::value::Value;
-use formula_shape::ShapeDraft;
-use term_table::Numbers;
+use formula_draft::FormulaDraft;
+use graph_terms::Numbers;
 
 /// What a defined name stands for: the sorts of its parameters, its sort, its rows and nodes, in which parameter i is
 /// variable i, and its value among them.
@@ -10,6 +10,6 @@ use term_table::Numbers;
 pub struct Definition {
     pub parameters: Numbers,
     pub sort: u32,
-    pub draft: ShapeDraft,
+    pub draft: FormulaDraft,
     pub value: Value,
 }

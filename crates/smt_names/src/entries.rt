@@ -4,7 +4,7 @@ ghost use Rattle.smt_names.specs.Entries.{place_of, IsSmall};
 
 use indexmap::IndexMap;
 use std::alloc::Global;
-use term_table::Memory;
+use graph_terms::Memory;
 
 /// The most entries: their numbers fit, and so do a few more.
 const MOST: usize = 0xffff_fff0;

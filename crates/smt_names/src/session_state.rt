@@ -17,7 +17,7 @@ use indexmap::IndexMap;
 use smt_text::{Kind, Place};
 use std::alloc::Global;
 use std::marker::Model;
-use term_table::Memory;
+use graph_terms::Memory;
 
 /// What stands between two commands: the limits, whether success is printed, the sorts, functions and definitions by their names,
 /// and what stood when each open level was opened.

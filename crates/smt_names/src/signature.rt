@@ -1,6 +1,6 @@
 //! The sorts of a declared function.
 
-use term_table::Numbers;
+use graph_terms::Numbers;
 
 /// The sorts of the arguments of a declared function, and that of its value. 0 is Bool, and the declared sorts count from 1.
 #[derive(Debug, Drop)]

@@ -6,7 +6,7 @@ use crate::refusal::Refusal;
 use crate::syntax_fault::SyntaxFault;
 use smt_text::Place;
 use std::alloc::{AllocError, AllocFailed, Global};
-use term_table::{Memory, Name};
+use graph_terms::{Memory, Name};
 
 /// Why a step stopped.
 #[derive(Debug, Drop)]

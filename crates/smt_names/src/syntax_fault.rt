@@ -2,7 +2,7 @@
 
 use crate::refusal::Refusal;
 use smt_text::Place;
-use term_table::Name;
+use graph_terms::Name;
 
 /// A refusal, where it comes, and the name that it speaks of. The name is empty where it speaks of none.
 #[derive(Debug, Drop)]

@@ -1,11 +1,11 @@
 //! Each public call once.
 use crate::*;
 use em_outside::Limits;
-use formula_shape::ShapeDraft;
+use formula_draft::FormulaDraft;
 use smt_text::{Kind, Place};
 use std::alloc::Global;
 use std::test::Fail;
-use term_table::{Memory, Numbers};
+use graph_terms::{Memory, Numbers};
 
 const HERE: Place = Place { line: 1, column: 9 };
 
@@ -60,7 +60,7 @@ fn definition(alloc: Global) -> Result<Definition, Memory> {
     Ok(Definition {
         parameters,
         sort: 0,
-        draft: ShapeDraft::new(alloc, 4, 4),
+        draft: FormulaDraft::new(alloc, 4, 4),
         value,
     })
 }

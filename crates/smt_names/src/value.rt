@@ -2,7 +2,7 @@
 ghost use Rattle.std.specs.Prelude.{◌≡◌};
 ghost use Rattle.smt_names.specs.Value.{sort_of, row_of, self as own_node, complement, other, swapped};
 
-/// What a term or a formula stands for in a shape under way.
+/// What a term or a formula stands for in a formula under way.
 #[derive(Clone, Copy, Debug, PartialEq, Eq)]
 pub enum Value {
     /// A term: its row, and its sort, which is not 0.

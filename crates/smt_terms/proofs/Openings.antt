@@ -5,7 +5,7 @@ use Rattle.std.proofs.Math.Path.{fun_ext}
 use Rattle.std.specs.declared.alloc.Global.{Global}
 use Rattle.smt_text.specs.Word.{Word}
 use Rattle.smt_text.specs.declared.token.Place.{Place}
-use Rattle.formula_shape.specs.Draft.{Draft}
+use Rattle.formula_draft.specs.Draft.{Draft}
 use Rattle.smt_names.specs.declared.value.Value.{Value}
 use Rattle.smt_names.specs.declared.arg.Arg.{Arg}
 use Rattle.smt_names.specs.declared.bound.Bound.{Bound}

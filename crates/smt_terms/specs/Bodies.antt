@@ -1,7 +1,7 @@
 -- What the parts of a forall answer.
 use Rattle.std.specs.Prelude.{◌≡◌, ℕ, ◌+◌, Bool, true, false, List, map, Result, Ok, Err}
 use Rattle.smt_text.specs.Word.{Word}
-use Rattle.formula_shape.specs.Draft.{Draft}
+use Rattle.formula_draft.specs.Draft.{Draft}
 use Rattle.smt_names.specs.declared.stop.Stop.{Stop}
 use Rattle.smt_names.specs.Making.{Making}
 use Rattle.smt_names.specs.Makes.{Refuses}

@@ -2,8 +2,8 @@
 use Rattle.std.specs.Prelude.{◌≡◌, ℕ, ◌+◌, ◌≤◌, ◌<◌, List, [], ◌∷◌, ◌++◌, length, reverse, take, true, false, Option, Some, None, Result, Ok, Err}
 use Rattle.smt_text.specs.Word.{Word}
 use Rattle.smt_text.specs.declared.token.Place.{Place}
-use Rattle.term_table.specs.declared.memory.Memory.{Memory}
-use Rattle.formula_shape.specs.Draft.{Draft}
+use Rattle.graph_terms.specs.declared.memory.Memory.{Memory}
+use Rattle.formula_draft.specs.Draft.{Draft}
 use Rattle.smt_names.specs.declared.value.Value.{Value}
 use Rattle.smt_names.specs.declared.arg.Arg.{Arg}
 use Rattle.smt_names.specs.declared.bound.Bound.{Bound}
@@ -130,7 +130,7 @@ GoesOn words state inside missing frames bound draft base most (step.At i) was =
     (was ≡ rest_of words state inside missing frames bound i draft) × (work_of words frames i ≤ most) × (base_of (reverse frames) bound ≡ base)
 GoesOn words state inside missing frames bound draft base most (step.Whole v) was = (was ≡ Ok (v, draft)) × (bound ≡ base)
 
--- the same of what takes nothing from the shape and can lack memory alone, in each scope and shape
+-- the same of what takes nothing from the formula and can lack memory alone, in each scope and formula
 abbrev pub Continues : List Word → List Frame → List Bound → (base : List Bound) → (most : ℕ) → Result ℕ Memory → (State → Inside → Making Value) → Type 0
 Continues words frames bound base most (Ok i) was = (state : State) (inside : Inside) (missing : Place) (draft : Draft) → GoesOn words state inside missing frames bound draft base most (step.At i) (was state inside draft)
 Continues words frames bound base most (Err refused) was = Unit {0}

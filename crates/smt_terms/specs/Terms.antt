@@ -4,10 +4,10 @@ use Rattle.smt_text.specs.Word.{Word}
 use Rattle.smt_text.specs.declared.token.Kind.TheVariants.{Left, Right, Symbol, Keyword}
 use Rattle.smt_text.specs.declared.token.Place.{Place}
 use Rattle.smt_text.specs.Trees as trees
-use Rattle.term_table.specs.declared.trigger.Trigger.{Trigger}
-use Rattle.formula_shape.specs.declared.shape_row.ShapeRow.TheVariants.{Var}
-use Rattle.formula_shape.specs.declared.shape_node.ShapeNode.TheVariants.{Forall}
-use Rattle.formula_shape.specs.Draft.{shape_forall}
+use Rattle.graph_trigger.specs.declared.trigger.Trigger.{Trigger}
+use Rattle.formula_draft.specs.declared.draft_row.DraftRow.TheVariants.{Var}
+use Rattle.formula_draft.specs.declared.draft_node.DraftNode.TheVariants.{Forall}
+use Rattle.formula_draft.specs.Draft.{draft_forall}
 use Rattle.smt_names.specs.declared.value.Value.{Value}
 use Rattle.smt_names.specs.declared.value.Value.TheVariants.{Term, Formula}
 use Rattle.smt_names.specs.declared.arg.Arg.{Arg}
@@ -19,8 +19,8 @@ use Rattle.smt_names.specs.Value.{sort_of, self}
 use Rattle.smt_names.specs.Making.{Making, made, ◌>>=◌, ◌>>◌, want, refuse_named, bad_form, not_in_profile, row, node, put_forall}
 use Rattle.smt_names.specs.Names.{State, Scope, bound_as, Named, Unknown, named, is_reserved, is_symbol, is_keyword}
 use Rattle.smt_forms.specs.Applied.{applied}
-use Rattle.shape_patterns.specs.Roots.{small_root}
-use Rattle.shape_patterns.specs.Triggers.{rooted_trigger}
+use Rattle.smt_patterns.specs.Roots.{small_root}
+use Rattle.smt_patterns.specs.Triggers.{rooted_trigger}
 use Rattle.smt_terms.specs.declared.form.Form.{Form}
 use Rattle.smt_terms.specs.declared.form.Form.TheVariants.{Let, Annotated, Universal, Foreign, Application}
 use Rattle.smt_terms.specs.Meant.{Meaning, Meant, End, Token, Group, from, first_place, no_more, at_least, exactly, Listed, other_sort, some_bindings, no_binding, attributes_of}
@@ -209,7 +209,7 @@ quantified paren head scope variables body = do
   v ← truth head (inside_of scope variables) body.tree
   patterns ← triggers (inside_of scope variables) variables body.patterns
   want (some_trigger patterns) refusal.NotInProfile head
-  index ← put_forall (shape_forall (length variables) (self v) patterns)
+  index ← put_forall (draft_forall (length variables) (self v) patterns)
   n ← node paren (Forall index)
   made (Formula n None)
 

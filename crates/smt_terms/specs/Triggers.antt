@@ -2,9 +2,9 @@
 use Rattle.std.specs.Prelude.{◌≡◌, ℕ, ◌+◌, ◌<◌, List, length, Option, Some, None, Result, Ok, Err}
 use Rattle.smt_text.specs.Word.{Word}
 use Rattle.smt_text.specs.declared.token.Place.{Place}
-use Rattle.term_table.specs.declared.trigger.Trigger.{Trigger}
-use Rattle.formula_shape.specs.declared.shape_node.ShapeNode.TheVariants.{Forall}
-use Rattle.formula_shape.specs.Draft.{Draft, shape_forall}
+use Rattle.graph_trigger.specs.declared.trigger.Trigger.{Trigger}
+use Rattle.formula_draft.specs.declared.draft_node.DraftNode.TheVariants.{Forall}
+use Rattle.formula_draft.specs.Draft.{Draft, draft_forall}
 use Rattle.smt_names.specs.declared.bound.Bound.{Bound}
 use Rattle.smt_names.specs.declared.value.Value.{Value}
 use Rattle.smt_names.specs.declared.value.Value.TheVariants.{Formula}
@@ -14,7 +14,7 @@ use Rattle.smt_names.specs.Value.{self}
 use Rattle.smt_names.specs.Making.{Making, made, ◌>>=◌, ◌>>◌, want, node, put_forall}
 use Rattle.smt_names.specs.Makes.{Refuses}
 use Rattle.smt_names.specs.Names.{Scope}
-use Rattle.shape_patterns.specs.Triggers.{rooted_trigger}
+use Rattle.smt_patterns.specs.Triggers.{rooted_trigger}
 use Rattle.smt_terms.specs.Meant.{Meant, End, from, at_least, no_more}
 use Rattle.smt_terms.specs.Terms.{Attribute, value, truth, trigger, triggers, pattern_root, pattern_roots, add_root, some_trigger}
 use Rattle.smt_terms.specs.Cursor.{word_at, here}
@@ -57,7 +57,7 @@ HasPatterns words key (Err stop) = (scope : Scope) (variables : List Bound) (dra
 abbrev pub forall_of : (paren head : Place) → ℕ → Value → List Trigger → Making Value
 forall_of paren head variables v patterns = do
   want (some_trigger patterns) NotInProfile head
-  index ← put_forall (shape_forall variables (self v) patterns)
+  index ← put_forall (draft_forall variables (self v) patterns)
   n ← node paren (Forall index)
   made (Formula n None)
 

@@ -2,7 +2,7 @@
 ghost use Rattle.std.specs.Prelude.{◌≡◌, ◌+◌, ◌++◌, ◌∷◌, [], OnOk};
 ghost use Rattle.smt_names.specs.Makes.{Checks, MakesItems};
 ghost use Rattle.smt_names.specs.Names.{bound_of};
-ghost use Rattle.formula_shape.specs.Draft.{Draft};
+ghost use Rattle.formula_draft.specs.Draft.{Draft};
 ghost use Rattle.smt_terms.specs.Meant.{from, no_binding, other_sort};
 ghost use Rattle.smt_terms.specs.Terms.{attribute_if, body_of, is_annotation, is_pattern_key, patterns_in, variables_from};
 ghost use Rattle.smt_terms.specs.Cursor.{word_at, here};
@@ -14,7 +14,7 @@ use crate::giving::bind_all;
 use smt_names::{Bound, BoundNames, Refusal, SessionState, Stands, Stop, is_keyword, is_symbol};
 use smt_text::{Place, Tree};
 use std::alloc::Global;
-use term_table::{Memory, Name};
+use graph_terms::{Memory, Name};
 
 /// Refuses a binding that comes next, at its name.
 fn check_no_binding(alloc: Global, tree: &Tree, i: u32, refusal: Refusal) -> Result<(), Stop>

@@ -13,7 +13,7 @@ use crate::numbers::is_wide;
 use smt_names::{Refusal, Stop, check_lawful_name, is_keyword};
 use smt_text::{Place, Tree};
 use std::alloc::Global;
-use term_table::Name;
+use graph_terms::Name;
 
 /// Refuses a tree that comes next.
 pub fn check_no_more(alloc: Global, tree: &Tree, i: u32, refusal: Refusal) -> Result<(), Stop>

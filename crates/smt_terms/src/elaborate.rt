@@ -11,7 +11,7 @@ use crate::foralls::put_forall;
 use crate::frame::{Frame, Inside, Next, Walked};
 use crate::giving::give;
 use crate::walking::walk;
-use formula_shape::ShapeDraft;
+use formula_draft::FormulaDraft;
 use smt_names::{Arg, BoundNames, SessionState, Stop, Value};
 use smt_text::{Place, Tree};
 use std::alloc::Global;
@@ -19,7 +19,7 @@ use std::alloc::Global;
 /// A forall outside foralls and definitions: its value goes to the innermost list.
 fn pass_forall(
     alloc: Global,
-    draft: &mut ShapeDraft,
+    draft: &mut FormulaDraft,
     state: &SessionState,
     tree: &Tree,
     frames: &mut Vec<Frame>,
@@ -47,7 +47,7 @@ fn pass_forall(
 /// Goes on behind the next forall, or to the value of the whole.
 fn advance(
     alloc: Global,
-    draft: &mut ShapeDraft,
+    draft: &mut FormulaDraft,
     state: &SessionState,
     tree: &Tree,
     missing: Place,
@@ -70,7 +70,7 @@ fn advance(
 /// The value of the tree at a place, where these names are bound. A tree that is missing is refused at the other place.
 pub fn elaborate_term(
     alloc: Global,
-    draft: &mut ShapeDraft,
+    draft: &mut FormulaDraft,
     state: &SessionState,
     tree: &Tree,
     bound: &mut BoundNames,

@@ -14,13 +14,13 @@ use crate::frame::Inside;
 use crate::giving::bind_all;
 use crate::triggers::put_triggers;
 use crate::values::{check_truth, value_inside};
-use formula_shape::{ShapeDraft, ShapeNode};
-use shape_patterns::count_of;
+use formula_draft::{FormulaDraft, DraftNode};
+use smt_patterns::count_of;
 use smt_forms::put_node;
 use smt_names::{Bound, BoundNames, Refusal, SessionState, Stop, Value};
 use smt_text::{Place, Tree};
 use std::alloc::Global;
-use term_table::Triggers;
+use graph_trigger::Triggers;
 
 /// Whether there is a trigger.
 fn has_trigger(triggers: &Triggers) -> bool
@@ -32,7 +32,7 @@ fn has_trigger(triggers: &Triggers) -> bool
 /// The forall with so many variables, this body and these triggers, of which there must be one.
 fn put_forall_of(
     alloc: Global,
-    draft: &mut ShapeDraft,
+    draft: &mut FormulaDraft,
     paren: Place,
     head: Place,
     variables: u32,
@@ -47,7 +47,7 @@ fn put_forall_of(
     match draft.forall(variables, body.node(), triggers) {
         Err(_) => Err(Stop::Memory),
         Ok(index) => {
-            let itself = put_node(alloc, draft, paren, ShapeNode::Forall { index })?;
+            let itself = put_node(alloc, draft, paren, DraftNode::Forall { index })?;
             Ok(Value::Formula {
                 itself,
                 complement: None,
@@ -59,7 +59,7 @@ fn put_forall_of(
 /// The forall of these variables and this body, and of the triggers whose keywords stand at these places.
 fn put_triggered(
     alloc: Global,
-    draft: &mut ShapeDraft,
+    draft: &mut FormulaDraft,
     state: &SessionState,
     tree: &Tree,
     bound: &mut BoundNames,
@@ -82,7 +82,7 @@ fn put_triggered(
 /// A forall whose variables are bound: its body, which must be a formula, and then its triggers.
 fn put_inside(
     alloc: Global,
-    draft: &mut ShapeDraft,
+    draft: &mut FormulaDraft,
     state: &SessionState,
     tree: &Tree,
     bound: &mut BoundNames,
@@ -107,7 +107,7 @@ fn put_inside(
 /// A forall of these variables and this body. The variables are bound in it alone.
 fn put_quantified(
     alloc: Global,
-    draft: &mut ShapeDraft,
+    draft: &mut FormulaDraft,
     state: &SessionState,
     tree: &Tree,
     bound: &mut BoundNames,
@@ -140,7 +140,7 @@ fn put_quantified(
 /// The body and the triggers of a forall whose variables are these. The attributes round the body are checked first.
 fn put_body(
     alloc: Global,
-    draft: &mut ShapeDraft,
+    draft: &mut FormulaDraft,
     state: &SessionState,
     tree: &Tree,
     bound: &mut BoundNames,
@@ -170,7 +170,7 @@ fn put_body(
 /// A forall whose bindings have the right form: their number and their sorts are checked, and then its body.
 fn put_bound_forall(
     alloc: Global,
-    draft: &mut ShapeDraft,
+    draft: &mut FormulaDraft,
     state: &SessionState,
     tree: &Tree,
     bound: &mut BoundNames,
@@ -197,7 +197,7 @@ fn put_bound_forall(
 /// A forall: its form is checked, and then what it binds.
 fn put_checked_forall(
     alloc: Global,
-    draft: &mut ShapeDraft,
+    draft: &mut FormulaDraft,
     state: &SessionState,
     tree: &Tree,
     bound: &mut BoundNames,
@@ -232,7 +232,7 @@ fn may_bind(inside: Inside) -> bool
 /// A forall.
 pub(crate) fn put_forall(
     alloc: Global,
-    draft: &mut ShapeDraft,
+    draft: &mut FormulaDraft,
     state: &SessionState,
     tree: &Tree,
     bound: &mut BoundNames,

@@ -8,7 +8,7 @@ use crate::frame::{Frame, Given, Next, Round, Work};
 use smt_names::{Arg, Bound, BoundNames, Stands};
 use smt_text::{Place, Tree};
 use std::alloc::Global;
-use term_table::{Memory, Name};
+use graph_terms::{Memory, Name};
 
 /// Binds more names.
 pub(crate) fn bind_all(bound: &mut BoundNames, more: &[Bound]) -> Result<(), Memory>

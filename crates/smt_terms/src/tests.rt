@@ -1,12 +1,13 @@
 //! Foralls with triggers, and how each trigger is refused.
 use crate::{Inside, elaborate_term};
 use em_outside::{Limits, SureSource};
-use formula_shape::{ShapeDraft, ShapeForall};
+use formula_draft::{FormulaDraft, DraftForall};
 use smt_names::{BoundNames, Refusal, SessionState, Signature, Stop};
 use smt_text::{Kind, Place, Tree, TreeReader};
 use std::alloc::Global;
 use std::test::Fail;
-use term_table::{Numbers, PatternRow, Trigger};
+use graph_terms::Numbers;
+use graph_trigger::{PatternRow, Trigger};
 
 const HERE: Place = Place { line: 1, column: 1 };
 
@@ -72,7 +73,7 @@ fn first_symbol(trigger: &Trigger) -> u32 {
     }
 }
 
-fn forall_so(rows: u32, nodes: u32, forall: &ShapeForall) -> Came {
+fn forall_so(rows: u32, nodes: u32, forall: &DraftForall) -> Came {
     if forall.triggers.len() == 0 {
         return Came::Other;
     }
@@ -91,7 +92,7 @@ fn forall_so(rows: u32, nodes: u32, forall: &ShapeForall) -> Came {
 
 /// What comes of the tree at the beginning of a command.
 fn came_of_tree(alloc: Global, state: &SessionState, tree: &Tree) -> Came {
-    let mut draft = ShapeDraft::new(alloc, 1000, 1000);
+    let mut draft = FormulaDraft::new(alloc, 1000, 1000);
     let mut bound = BoundNames::new(alloc);
     let inside = Inside {
         in_forall: false,

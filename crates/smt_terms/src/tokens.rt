@@ -10,7 +10,7 @@ ghost use Rattle.smt_terms.specs.Machine.{scope_of};
 
 use crate::cursor::{kind_at, place_at, text_at};
 use crate::frame::Inside;
-use formula_shape::{ShapeDraft, ShapeRow};
+use formula_draft::{FormulaDraft, DraftRow};
 use smt_forms::{apply, put_row};
 use smt_names::{BoundNames, Head, Refusal, SessionState, Stands, Stop, Value, is_reserved};
 use smt_text::{Kind, Place, Tree};
@@ -26,7 +26,7 @@ fn may_stand(inside: Inside, complement: Option<u32>) -> bool
 /// What a bound name stands for.
 fn put_stands(
     alloc: Global,
-    draft: &mut ShapeDraft,
+    draft: &mut FormulaDraft,
     inside: Inside,
     at: Place,
     stands: Stands,
@@ -43,7 +43,7 @@ fn put_stands(
             }
         }
         Stands::Variable { index, sort } => {
-            let row = put_row(alloc, draft, at, ShapeRow::Var { index })?;
+            let row = put_row(alloc, draft, at, DraftRow::Var { index })?;
             Ok(Value::Term { row, sort })
         }
     }
@@ -52,7 +52,7 @@ fn put_stands(
 /// What a name without arguments stands for that is not bound.
 fn put_free(
     alloc: Global,
-    draft: &mut ShapeDraft,
+    draft: &mut FormulaDraft,
     state: &SessionState,
     at: Place,
     name: &[u8],
@@ -74,7 +74,7 @@ fn put_free(
 /// What a name without arguments stands for.
 fn put_name(
     alloc: Global,
-    draft: &mut ShapeDraft,
+    draft: &mut FormulaDraft,
     state: &SessionState,
     bound: &BoundNames,
     inside: Inside,
@@ -93,7 +93,7 @@ fn put_name(
 #[tactic(auto, unfolding(crate::specs::Terms::token_value))]
 pub(crate) fn put_token(
     alloc: Global,
-    draft: &mut ShapeDraft,
+    draft: &mut FormulaDraft,
     state: &SessionState,
     tree: &Tree,
     bound: &BoundNames,

@@ -12,12 +12,12 @@ use crate::checks::{check_at_least, check_no_more};
 use crate::cursor::{Seen, behind_some, kind_at, look, place_at};
 use crate::frame::Inside;
 use crate::values::value_inside;
-use formula_shape::ShapeDraft;
-use shape_patterns::{root_of_pattern, trigger_of_roots};
+use formula_draft::FormulaDraft;
+use smt_patterns::{root_of_pattern, trigger_of_roots};
 use smt_names::{Bound, BoundNames, Refusal, SessionState, Stop, is_keyword};
 use smt_text::{Place, Tree};
 use std::alloc::Global;
-use term_table::{Trigger, Triggers};
+use graph_trigger::{Trigger, Triggers};
 
 /// The place behind the tree that comes next, where one does.
 fn behind_next(tree: &Tree, i: u32) -> Option<u32>
@@ -36,7 +36,7 @@ fn behind_next(tree: &Tree, i: u32) -> Option<u32>
 /// The root of the pattern that comes next.
 fn put_root(
     alloc: Global,
-    draft: &mut ShapeDraft,
+    draft: &mut FormulaDraft,
     state: &SessionState,
     tree: &Tree,
     bound: &mut BoundNames,
@@ -55,7 +55,7 @@ fn put_root(
 /// The roots of the patterns that come next, to the end of the list.
 fn put_roots(
     alloc: Global,
-    draft: &mut ShapeDraft,
+    draft: &mut FormulaDraft,
     state: &SessionState,
     tree: &Tree,
     bound: &mut BoundNames,
@@ -85,7 +85,7 @@ fn put_roots(
 /// The trigger of the patterns that come next, to the end of the list.
 fn put_listed(
     alloc: Global,
-    draft: &mut ShapeDraft,
+    draft: &mut FormulaDraft,
     state: &SessionState,
     tree: &Tree,
     bound: &mut BoundNames,
@@ -148,7 +148,7 @@ fn check_patterns(alloc: Global, tree: &Tree, key: u32) -> Result<(), Stop>
 /// The trigger whose keyword stands at a place.
 fn put_trigger(
     alloc: Global,
-    draft: &mut ShapeDraft,
+    draft: &mut FormulaDraft,
     state: &SessionState,
     tree: &Tree,
     bound: &mut BoundNames,
@@ -182,7 +182,7 @@ fn put_trigger(
 /// The triggers whose keywords stand at these places.
 pub(crate) fn put_triggers(
     alloc: Global,
-    draft: &mut ShapeDraft,
+    draft: &mut FormulaDraft,
     state: &SessionState,
     tree: &Tree,
     bound: &mut BoundNames,

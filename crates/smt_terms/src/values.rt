@@ -12,7 +12,7 @@ ghost use Rattle.smt_terms.specs.Machine.{scope_of};
 use crate::cursor::{Seen, look, place_at};
 use crate::frame::{Inside, Walked};
 use crate::walking::walk;
-use formula_shape::ShapeDraft;
+use formula_draft::FormulaDraft;
 use smt_names::{BoundNames, Refusal, SessionState, Stop, Value};
 use smt_text::{Place, Tree};
 use std::alloc::Global;
@@ -20,7 +20,7 @@ use std::alloc::Global;
 /// The value of the tree at a place inside a forall, where no further forall may stand.
 pub(crate) fn value_inside(
     alloc: Global,
-    draft: &mut ShapeDraft,
+    draft: &mut FormulaDraft,
     state: &SessionState,
     tree: &Tree,
     bound: &mut BoundNames,

@@ -1,7 +1,7 @@
 //! Elaborates a term with a stack of its own, up to a forall.
 ghost use Rattle.std.specs.Prelude.{◌≡◌, ◌<◌, ◌+◌, length, reverse, List};
 ghost use Rattle.smt_text.specs.declared.token.Place.{Place};
-ghost use Rattle.formula_shape.specs.Draft.{Draft};
+ghost use Rattle.formula_draft.specs.Draft.{Draft};
 ghost use Rattle.smt_names.specs.Makes.{Makes};
 ghost use Rattle.smt_terms.specs.Terms.{list_value};
 ghost use Rattle.smt_terms.specs.Cursor.{word_at, here, SeesList, SeesToken};
@@ -15,7 +15,7 @@ use crate::frame::{Frame, Inside, Next, Opened, Step, Walked, Work};
 use crate::giving::give;
 use crate::opening::open_list;
 use crate::tokens::put_token;
-use formula_shape::ShapeDraft;
+use formula_draft::FormulaDraft;
 use smt_forms::apply;
 use smt_names::{Arg, BoundNames, Refusal, SessionState, Stop, Value};
 use smt_text::{Place, Tree};
@@ -24,7 +24,7 @@ use std::alloc::Global;
 /// The value of a list that ends, and its place.
 fn value_of_list(
     alloc: Global,
-    draft: &mut ShapeDraft,
+    draft: &mut FormulaDraft,
     state: &SessionState,
     tree: &Tree,
     frame: &Frame,
@@ -70,7 +70,7 @@ fn step_into(opened: Opened, at: u32, after: u32) -> Step
 /// The innermost list ends: its value goes to the list round it.
 fn close(
     alloc: Global,
-    draft: &mut ShapeDraft,
+    draft: &mut FormulaDraft,
     state: &SessionState,
     tree: &Tree,
     missing: Place,
@@ -106,7 +106,7 @@ fn close(
 /// A token that is a tree: its value goes to the innermost list.
 fn pass_token(
     alloc: Global,
-    draft: &mut ShapeDraft,
+    draft: &mut FormulaDraft,
     state: &SessionState,
     tree: &Tree,
     frames: &mut Vec<Frame>,
@@ -153,7 +153,7 @@ fn enter_list(
 /// One step: a list ends, a token is passed, or a list begins.
 fn step(
     alloc: Global,
-    draft: &mut ShapeDraft,
+    draft: &mut FormulaDraft,
     state: &SessionState,
     tree: &Tree,
     missing: Place,
@@ -174,7 +174,7 @@ fn step(
 /// Goes on up to a forall outside foralls and definitions, or to the value of the whole.
 pub(crate) fn walk(
     alloc: Global,
-    draft: &mut ShapeDraft,
+    draft: &mut FormulaDraft,
     state: &SessionState,
     tree: &Tree,
     missing: Place,

@@ -1,8 +1,8 @@
 //! Whether two graphs answer alike.
 ghost use Rattle.std.specs.Prelude.{◌<◌, length};
-ghost use Rattle.term_table.specs.Standing.{terms_of, triggers_of};
+ghost use Rattle.graph_meaning.specs.Standing.{terms_of, triggers_of};
 
-use term_table::{ClassGraph, Front};
+use graph_meaning::{ClassGraph, Front};
 
 /// The symbols that the tests use are below it.
 const SYMBOLS: u32 = 6;

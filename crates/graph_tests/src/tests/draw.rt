@@ -2,7 +2,8 @@
 use super::deed::{Deed, op_of};
 use super::pair::Pair;
 use std::alloc::Global;
-use term_table::{ClassGraph, TableFault};
+use graph_meaning::ClassGraph;
+use graph_terms::TableFault;
 
 /// The operation of a kind over two terms.
 fn drawn(kind: u32, ends: &[u32; 2]) -> Deed {

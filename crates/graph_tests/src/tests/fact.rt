@@ -1,6 +1,6 @@
 //! What a graph answers, as the tables of the tests write it.
-use congruence::{Clash, Graph};
-use term_table::ClassGraph;
+use graph_congruence::{Clash, Graph};
+use graph_meaning::ClassGraph;
 
 /// What a graph has to answer.
 #[derive(Clone, Copy, Debug)]

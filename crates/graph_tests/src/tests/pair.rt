@@ -2,10 +2,11 @@
 ghost use Rattle.std.specs.Prelude.{◌≤◌};
 
 use super::agreement::agree;
-use congruence::Graph;
-use plain_graph::PlainGraph;
+use graph_congruence::Graph;
+use graph_plain::PlainGraph;
 use std::alloc::Global;
-use term_table::{ClassGraph, Front, Memory, Op, TableFault};
+use graph_meaning::{ClassGraph, Front, Op};
+use graph_terms::{Memory, TableFault};
 
 /// Two graphs that were driven alike, and fronts that they had.
 #[derive(Drop)]

@@ -4,7 +4,7 @@ use super::deed::{Deed, op_of};
 use super::fact::{Fact, holds};
 use super::pair::Pair;
 use std::alloc::Global;
-use term_table::TableFault;
+use graph_terms::TableFault;
 
 /// What is done with two graphs, and what has to come of it.
 #[derive(Clone, Copy, Debug)]

@@ -1,4 +1,4 @@
-use Rattle.term_table.specs.Standing.{terms_of}
+use Rattle.graph_meaning.specs.Standing.{terms_of}
 use Rattle.ematch_cli.specs.Names.{names_of}
 use Rattle.ematch_cli.specs.Printed.{IsEntry}
 use Rattle.ematch_cli.proofs.Texts.{IsUnderWay}

@@ -1,5 +1,5 @@
 use Rattle.std.proofs.Common.{◌≡◌, List, ℕ, ◌<◌, ◌++◌, length, All, refl, sym, arith, ap, ◌∙◌, subst}
-use Rattle.term_table.specs.Standing.{terms_of}
+use Rattle.graph_meaning.specs.Standing.{terms_of}
 use Rattle.ematch_cli.specs.Joined.{AreJoined}
 use Rattle.ematch_cli.specs.Listing.{heading, IsTupleLine}
 use Rattle.ematch_cli.specs.Names.{names_of}

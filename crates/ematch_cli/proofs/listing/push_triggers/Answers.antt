@@ -1,5 +1,5 @@
 use Rattle.std.proofs.Common.{arith}
-use Rattle.term_table.specs.Standing.{triggers_of}
+use Rattle.graph_meaning.specs.Standing.{triggers_of}
 use Rattle.ematch_cli.specs.Names.{names_of}
 use Rattle.ematch_cli.specs.Listing.{IsTriggerListing}
 use Rattle.ematch_cli.proofs.Texts.{under_way_none, under_way_more, under_way_all}

@@ -1,4 +1,4 @@
-use Rattle.term_table.specs.Standing.{triggers_of}
+use Rattle.graph_meaning.specs.Standing.{triggers_of}
 use Rattle.ematch_cli.specs.Names.{names_of}
 use Rattle.ematch_cli.specs.Listing.{IsTriggerListing}
 use Rattle.ematch_cli.proofs.Texts.{IsUnderWay}

@@ -1,5 +1,5 @@
 use Rattle.std.proofs.Common.{◌-◌, arith}
-use Rattle.term_table.specs.Standing.{terms_of}
+use Rattle.graph_meaning.specs.Standing.{terms_of}
 use Rattle.ematch_cli.proofs.TreeSizes.{not_none, counted_none, counted_more, too_many, all_counted}
 use Rattle.ematch_cli.proofs.printed.+left_after.Goals as goal
 

@@ -1,5 +1,5 @@
 use Rattle.std.proofs.Common.{◌-◌, ◌<◌, drop}
-use Rattle.term_table.specs.Standing.{terms_of}
+use Rattle.graph_meaning.specs.Standing.{terms_of}
 use Rattle.ematch_cli.proofs.TreeSizes.{AreCounted}
 use Rattle.ematch_cli.proofs.printed.+left_after.Given as goal
 

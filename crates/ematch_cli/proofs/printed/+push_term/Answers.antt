@@ -1,5 +1,5 @@
 use Rattle.std.proofs.Common.{◌++◌, ◌∷◌, [], ap, ◌∙◌, arith}
-use Rattle.term_table.specs.Standing.{terms_of}
+use Rattle.graph_meaning.specs.Standing.{terms_of}
 use Rattle.ematch_cli.specs.Names.{names_of}
 use Rattle.ematch_cli.specs.Printed.{symbol_text}
 use Rattle.ematch_cli.proofs.TreeSizes.{earlier_arg}

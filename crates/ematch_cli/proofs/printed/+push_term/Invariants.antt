@@ -1,5 +1,5 @@
 use Rattle.std.proofs.Common.{◌≡◌, ℕ, List, [], ◌∷◌, ◌++◌, drop}
-use Rattle.term_table.specs.Standing.{terms_of}
+use Rattle.graph_meaning.specs.Standing.{terms_of}
 use Rattle.ematch_cli.specs.Names.{names_of}
 use Rattle.ematch_cli.specs.Printed.{IsTermText, AreTermTexts}
 use Rattle.ematch_cli.proofs.printed.+push_term.Given as goal

@@ -1,6 +1,6 @@
 use Rattle.std.proofs.Common.{◌++◌, ◌∷◌, [], ap, ◌∙◌, arith}
 use Rattle.std.specs.Fmt.{decimal}
-use Rattle.term_table.specs.Standing.{terms_of}
+use Rattle.graph_meaning.specs.Standing.{terms_of}
 use Rattle.ematch_cli.specs.Printed.{whole, numbered}
 use Rattle.ematch_cli.proofs.TreeSizes.{has_size}
 use Rattle.ematch_cli.proofs.Texts.{put_two}

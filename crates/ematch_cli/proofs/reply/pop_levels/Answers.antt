@@ -1,5 +1,5 @@
 use Rattle.std.proofs.Common.{arith}
-use Rattle.assertion_stack.specs.Assertions.{popped}
+use Rattle.formula_assert.specs.Assertions.{popped}
 use Rattle.ematch_cli.proofs.Steps.{repeated_step}
 use Rattle.ematch_cli.proofs.reply.pop_levels.Goals as goal
 

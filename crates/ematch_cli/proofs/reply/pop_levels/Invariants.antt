@@ -1,5 +1,5 @@
 use Rattle.std.proofs.Common.{◌≡◌, ◌-◌}
-use Rattle.assertion_stack.specs.Assertions.{popped}
+use Rattle.formula_assert.specs.Assertions.{popped}
 use Rattle.ematch_cli.specs.Run.{repeated}
 use Rattle.ematch_cli.proofs.reply.pop_levels.Given as goal
 

@@ -1,5 +1,5 @@
 use Rattle.std.proofs.Common.{arith}
-use Rattle.assertion_stack.specs.Assertions.{pushed}
+use Rattle.formula_assert.specs.Assertions.{pushed}
 use Rattle.ematch_cli.proofs.Steps.{repeated_step}
 use Rattle.ematch_cli.proofs.reply.push_levels.Goals as goal
 

@@ -1,5 +1,5 @@
 use Rattle.std.proofs.Common.{◌≡◌, ◌-◌}
-use Rattle.assertion_stack.specs.Assertions.{pushed}
+use Rattle.formula_assert.specs.Assertions.{pushed}
 use Rattle.ematch_cli.specs.Run.{repeated}
 use Rattle.ematch_cli.proofs.reply.push_levels.Given as goal
 

@@ -2,7 +2,7 @@ use Rattle.std.proofs.Common.{◌≡◌, ◌≢◌, true, false, List, ℕ, arit
 use Rattle.em_outside.specs.Bytes.{Appended}
 use Rattle.smt_text.specs.Reading.{Reading}
 use Rattle.smt_names.specs.Names.{State, at_start}
-use Rattle.assertion_stack.specs.Assertions.{Assertions}
+use Rattle.formula_assert.specs.Assertions.{Assertions}
 use Rattle.smt_commands.specs.declared.command.Command.{Command}
 use Rattle.smt_commands.specs.declared.command.Command.TheVariants.{Exit}
 use Rattle.ematch_cli.specs.RunState.{RunState, run_state}

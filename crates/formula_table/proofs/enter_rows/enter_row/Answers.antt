@@ -1,9 +1,9 @@
 use Rattle.std.proofs.Common.{◌≡◌, ◌<◌, ◌≤◌, ℕ, List, [], length, Some, All, Contains, ap, subst, sym, ◌∙◌, true≢false}
 use Rattle.std.specs.Prelude.{slice_index}
 use Rattle.std.proofs.lemmas.List.Elements.{All-weaker, All-contains, All-contains_itself}
-use Rattle.term_table.specs.TermEntry.{AddGrows}
-use Rattle.formula_shape.specs.declared.shape_row.ShapeRow.TheVariants.{App}
-use Rattle.formula_shape.specs.Reach.ReachesRow.{argument}
+use Rattle.graph_terms.specs.TermEntry.{AddGrows}
+use Rattle.formula_draft.specs.declared.draft_row.DraftRow.TheVariants.{App}
+use Rattle.formula_draft.specs.Reach.ReachesRow.{argument}
 use Rattle.formula_table.specs.Entry.{entered_row}
 use Rattle.formula_table.specs.EntryInside.{RowGrows, StopsTerm}
 use Rattle.formula_table.specs.InOrder.PutsNext.{nothing}
@@ -41,8 +41,8 @@ returns-in-App-clause-ok g c =
     let limit = g.E.TermEntry.limit c.args.terms.now in
     let grown = g.E.TermEntry.grown c.args.terms.now c.add_term.new.terms in
     let numbers = c.args.numbers.now in
-    ok_map (AddGrows old limit new grown (entered_row numbers c.in-App.symbol c.as_slice.result.now)) (RowGrows grown c.args.shape.now old limit numbers) c.add_term.result
-    (λ term adds. row_added c.args.shape.now old new limit grown numbers c.in-App.symbol c.in-App.args (c.requires.reached.0 c.if-not-reached.false) at
+    ok_map (AddGrows old limit new grown (entered_row numbers c.in-App.symbol c.as_slice.result.now)) (RowGrows grown c.args.formula.now old limit numbers) c.add_term.result
+    (λ term adds. row_added c.args.formula.now old new limit grown numbers c.in-App.symbol c.in-App.args (c.requires.reached.0 c.if-not-reached.false) at
     (λ more grew. (g.met.E.TermEntry.grown_rows c.args.terms.now c.add_term.new.terms more grew).0)
     term (subst (λ (args : List ℕ). AddGrows old limit new grown (entered_row numbers c.in-App.symbol args) term) c.as_slice.ensures adds))
     c.add_term.ensures.ok
@@ -54,6 +54,6 @@ returns-in-App-clause-fault g c =
     let limit = g.E.TermEntry.limit c.args.terms.now in
     let numbers = c.args.numbers.now in
     fault_map _ _ c.add_term.result
-    (λ fault stops. stops_row c.args.shape.now rows limit numbers _ _ c.in-App.symbol c.in-App.args (c.requires.reached.0 c.if-not-reached.false) at fault
+    (λ fault stops. stops_row c.args.formula.now rows limit numbers _ _ c.in-App.symbol c.in-App.args (c.requires.reached.0 c.if-not-reached.false) at fault
     (subst (λ (args : List ℕ). StopsTerm rows limit (c.add_term.new.terms ≡ c.args.terms.now) (g.E.TermEntry.refused c.args.terms.now c.add_term.new.terms) (entered_row numbers c.in-App.symbol args) fault) c.as_slice.ensures stops))
     c.add_term.ensures.fault

@@ -1,6 +1,6 @@
 use Rattle.std.proofs.Common.{true, length}
-use Rattle.formula_shape.specs.declared.shape_row.ShapeRow.TheVariants.{App}
-use Rattle.formula_shape.specs.declared.shape_node.ShapeNode.TheVariants.{Atom}
+use Rattle.formula_draft.specs.declared.draft_row.DraftRow.TheVariants.{App}
+use Rattle.formula_draft.specs.declared.draft_node.DraftNode.TheVariants.{Atom}
 use Rattle.formula_table.proofs.TestLemmas.{constant_fits, atom_fits, node_within, constant_closed}
 use Rattle.formula_table.proofs.tests.atom.Goals as goal
 

@@ -1,6 +1,6 @@
 use Rattle.std.proofs.Common.{ℕ, List, Contains, sym, subst}
 use Rattle.std.proofs.lemmas.List.Sorted.{Contains-permutation, IsPermutation-sym}
-use Rattle.term_table.specs.Match.{InOrder}
+use Rattle.graph_meaning.specs.Match.{InOrder}
 use Rattle.match_machine.proofs.OrderLemmas.{order_of_dedup, kept_by_dedup}
 use Rattle.match_machine.proofs.arrange.arrange.Goals as goal
 

@@ -1,5 +1,5 @@
 use Rattle.std.proofs.Common.{◌≡◌}
-use Rattle.formula_shape.specs.Draft.{Draft}
+use Rattle.formula_draft.specs.Draft.{Draft}
 use Rattle.smt_terms.specs.Cursor.{here}
 use Rattle.smt_terms.specs.Machine.{weight}
 use Rattle.smt_commands.specs.Parameters.{parameter_sorts}

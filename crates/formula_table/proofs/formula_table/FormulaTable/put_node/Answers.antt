@@ -3,13 +3,13 @@ use Rattle.std.specs.Option.{option_map}
 use Rattle.std.specs.Map.{values_of}
 use Rattle.std.proofs.lemmas.Map.Entries.{length-values_of}
 use Rattle.formula_table.specs.declared.node.Node.{Node}
-use Rattle.formula_shape.specs.Items.{with_item, same_key, Puts}
+use Rattle.formula_draft.specs.Items.{with_item, same_key, Puts}
 use Rattle.formula_table.specs.Node.{same_entered, entered_key}
 use Rattle.formula_table.specs.Formulas.{Formulas, FitsTable, RefusesEntered, with_entered}
 use Rattle.formula_table.specs.TableInside.{table_of}
 use Rattle.formula_table.specs.declared.enter_fault.EnterFault.TheVariants.{NodesFull}
-use Rattle.formula_shape.specs.SameLaws.{absent}
-use Rattle.formula_shape.specs.ItemLaws.{item_put, item_full, full_cases, AreKeyed-put}
+use Rattle.formula_draft.specs.SameLaws.{absent}
+use Rattle.formula_draft.specs.ItemLaws.{item_put, item_full, full_cases, AreKeyed-put}
 use Rattle.formula_table.proofs.Same.{entered_by_keys, entered_told}
 use Rattle.formula_table.proofs.TableLemmas.{IsFormulaTable-node}
 use Rattle.formula_table.proofs.formula_table.FormulaTable.put_node.Goals as goal

@@ -1,5 +1,5 @@
 use Rattle.std.proofs.Common.{◌≡◌, ◌≤◌, ◌-◌, List, length, get_or, Some, sym, ap, ◌∙◌, arith, bytes_eq}
-use Rattle.term_table.specs.ListLaws.{get_or-any}
+use Rattle.graph_terms.specs.ListLaws.{get_or-any}
 use Rattle.smt_names.specs.declared.bound.Bound.{Bound}
 use Rattle.smt_names.specs.Names.{bound_as}
 use Rattle.smt_names.proofs.BoundLemmas.{found, passed}

@@ -1,7 +1,0 @@
-use Rattle.std.proofs.Common.{sym, ap₂, ◌∙◌, true≢false}
-use Rattle.assertion_stack.specs.Held.{held}
-use Rattle.assertion_stack.specs.WorkList.{held_now}
-use Rattle.assertion_stack.proofs.assert_nodes.assert_next.Goals as goal
-
-pub returns-clause-ok : goal.returns-clause-ok
-returns-clause-ok c = held_now {node = c.node-node.result.now} (λ has. true≢false (sym (c.has.ensures.1 has) ∙ c.if-has.false)) c.node-node.ensures (ap₂ held c.in_ok-do_operations.ensures.ok c.in_ok-put.ensures.ok) c.in_ok-push_conjuncts.ensures

@@ -1,8 +1,0 @@
-use Rattle.assertion_stack.proofs.StackLemmas.{pop_gone, pop_back}
-use Rattle.assertion_stack.proofs.laws.pop_law.Goals as goal
-
-pub returns-clause-gone : goal.returns-clause-gone
-returns-clause-gone c = pop_gone
-
-pub returns-clause-back : goal.returns-clause-back
-returns-clause-back c = pop_back

@@ -1,9 +1,0 @@
-use Rattle.std.proofs.Common.{◌∙◌, ap, ◌∷◌, [], ◌++◌, length, take, ◌-◌, arith}
-use Rattle.std.proofs.lemmas.Grind.{common_steps}
-use Rattle.class_parts.specs.Table.{found, shown_entries}
-use Rattle.class_parts.proofs.TableLemmas.{shown_shorter}
-use Rattle.class_parts.proofs.signatures.Signatures.shorten.Goals as goal
-
-pub returns : goal.returns
-returns c = shown_shorter c.self.inside.entries.entries c.pop.new.self.entries c.pop.result c.pop.ensures.entries c.pop.ensures.found.1
-    ∙ ap (λ t. take (length t - 1) t) c.self.view_is

@@ -1,0 +1,39 @@
+use Rattle.std.proofs.Common.{◌≡◌, ℕ, ◌+◌, ◌<◌, [], ◌∷◌, ◌++◌, List, length, sym, ap, ◌∙◌, arith}
+use Rattle.std.proofs.lemmas.List.{length-append, nil_from_length}
+use Rattle.graph_meaning.specs.Standing.{terms_of}
+use Rattle.formula_assert.specs.Held.{held}
+use Rattle.formula_assert.proofs.Growth.{NodesStand-more}
+use Rattle.formula_assert.proofs.Growth.{terms_longer, holds_both}
+use Rattle.formula_assert.proofs.WorkLemmas.{way_begins, way_goes_on, way_ends, work_less, owed}
+use Rattle.formula_assert.proofs.assert_nodes.assert_node.Goals as goal
+
+pub loop-n-init : goal.loop-n-init
+loop-n-init c =
+    way_begins c.args.formulas.now c.args.root (held c.args.terms.now c.args.asserted.now) c.push_number.new.numbers.items c.requires.stands
+    (c.in_ok-push_number.ensures ∙ ap (λ (list : List ℕ). list ++ c.args.root ∷ []) c.new-work.ensures.items)
+
+pub assert_next-requires-clause-terms : goal.assert_next-requires-clause-terms
+assert_next-requires-clause-terms c =
+    NodesStand-more (length (terms_of c.args.terms.now.standing)) (length (terms_of c.loop-n.terms.standing)) c.args.formulas.now.nodes
+    (terms_longer c.args.terms.now c.loop-n.terms c.loop-n.invariant.more_held.grows) c.requires.terms
+
+pub loop-n-smaller : goal.loop-n-smaller
+loop-n-smaller c =
+    let nodes = c.args.formulas.now.nodes in
+    let less = work_less c.args.formulas.now c.in-Some.n (held c.loop-n.terms c.loop-n.asserted) (held c.assert_next.new.terms c.assert_next.new.asserted) c.pop.new.self.items c.assert_next.new.work.items c.in_ok-assert_next.ensures.ok in
+    let len : length c.loop-n.work.items ≡ length c.pop.new.self.items + 1 = ap length c.in-Some.ensures.items ∙ length-append c.pop.new.self.items (c.in-Some.n ∷ []) in
+    let smaller : owed c.assert_next.new.asserted 0 nodes + length c.assert_next.new.work.items < owed c.loop-n.asserted 0 nodes + length c.loop-n.work.items = omega (arith, less, len) in
+    smaller
+
+pub loop-n-preserved : goal.loop-n-preserved
+loop-n-preserved c =
+    way_goes_on c.args.formulas.now c.args.root c.in-Some.n (held c.args.terms.now c.args.asserted.now) (held c.loop-n.terms c.loop-n.asserted) c.loop-n.work.items c.pop.new.self.items c.in-Some.ensures.items c.loop-n.invariant
+    c.len-count.ensures.table (held c.assert_next.new.terms c.assert_next.new.asserted) c.assert_next.new.work.items c.in_ok-assert_next.ensures.ok c.in_ok-assert_next.ensures.grows
+
+pub returns-in_err-assert_next-clause-grows : goal.returns-in_err-assert_next-clause-grows
+returns-in_err-assert_next-clause-grows c =
+    holds_both (held c.args.terms.now c.args.asserted.now) (held c.loop-n.terms c.loop-n.asserted) (held c.assert_next.new.terms c.assert_next.new.asserted) c.loop-n.invariant.more_held c.in_err-assert_next.ensures.grows
+
+pub returns-clause-ok : goal.returns-clause-ok
+returns-clause-ok c =
+    way_ends c.args.formulas.now c.args.root (held c.args.terms.now c.args.asserted.now) (held c.loop-n.terms c.loop-n.asserted) c.loop-n.work.items (nil_from_length c.loop-n.work.items (sym c.loop-n.work.ok.0 ∙ c.in_default.ensures.cases.0)) c.loop-n.invariant

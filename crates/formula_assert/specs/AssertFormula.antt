@@ -1,0 +1,33 @@
+-- What it is to assert a formula: it is entered, and then its root is asserted.
+use Rattle.std.specs.Prelude.{◌≡◌, ℕ}
+use Rattle.graph_meaning.specs.Standing.{terms_of}
+use Rattle.graph_meaning.specs.State.{GraphState}
+use Rattle.formula_draft.specs.Draft.{Formula}
+use Rattle.formula_table.specs.declared.enter_fault.EnterFault.{EnterFault}
+use Rattle.formula_table.specs.declared.enter_fault.EnterFault.TheVariants.{TermsFull, NodesFull, Memory}
+use Rattle.formula_table.specs.Entry.{Enters, FillsTerms, LacksNodes}
+use Rattle.formula_assert.specs.GraphTerms.{with_terms}
+use Rattle.formula_assert.specs.Held.{held}
+use Rattle.formula_assert.specs.Asserts.{Asserts}
+use Rattle.formula_assert.specs.Assertions.{Assertions, held_of}
+
+-- the formula was entered over the terms of the graph, which gained some, and then its root was asserted
+pub record AssertsFormula (formula : Formula) (before after : Assertions) : Type 0 where
+  pub entered : GraphState
+  pub root : ℕ
+  pub enters : Enters (λ more. entered ≡ with_terms before.graph more) formula (terms_of before.graph.standing) before.graph.limit before.formulas after.formulas root
+  pub asserts : Asserts after.formulas root (held entered before.asserted) (held_of after)
+  pub saved_is : after.saved ≡ before.saved
+
+-- all is as before but for the graph
+pub record KeepsFormulas (before after : Assertions) : Type 0 where
+  pub formulas_are : after.formulas ≡ before.formulas
+  pub asserted_are : after.asserted ≡ before.asserted
+  pub saved_are : after.saved ≡ before.saved
+
+-- the formula was not asserted: there was no room for its next term, or none for its next node once the graph had gained all
+-- its terms, and but for the terms all is as before; or memory was refused
+abbrev pub StopsAssert : Formula → Assertions → Assertions → EnterFault → Type 0
+StopsAssert formula before after TermsFull = FillsTerms (λ more. after.graph ≡ with_terms before.graph more) formula (terms_of before.graph.standing) before.graph.limit × KeepsFormulas before after
+StopsAssert formula before after NodesFull = LacksNodes (λ more. after.graph ≡ with_terms before.graph more) formula (terms_of before.graph.standing) before.graph.limit before.formulas × KeepsFormulas before after
+StopsAssert formula before after Memory = Unit {0}

@@ -1,0 +1,12 @@
+pub mod GraphTerms
+pub mod GraphTermsLaws
+pub mod Held
+pub mod Asserts
+pub mod Assertions
+pub mod AssertFormula
+pub mod InLevel
+pub mod Stands
+pub mod WorkList
+pub mod StackInside
+pub mod AssertsLaws
+pub mod OutcomeLaws

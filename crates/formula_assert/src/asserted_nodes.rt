@@ -1,0 +1,63 @@
+//! The numbers of the asserted nodes.
+ghost use Rattle.std.specs.Prelude.{◌≡◌, ◌≤◌, ◌↔◌, ◌++◌, [], ◌∷◌, length, take, Contains, IsTrue, OnOk, OnErr};
+
+use indexmap::IndexSet;
+use std::alloc::Global;
+use std::marker::Model;
+use graph_terms::Memory;
+
+/// Numbers of nodes in the order in which they were asserted, each once. Contracts see a list.
+#[derive(Drop)]
+pub(crate) struct AssertedNodes {
+    nodes: IndexSet<u32>,
+}
+
+impl Model for AssertedNodes {
+    ghost use Rattle.std.specs.Prelude.{ℕ, List};
+
+    ghost Value = { List ℕ };
+
+    ghost view = { λ asserted. asserted.nodes.keys };
+}
+
+impl AssertedNodes {
+    /// None yet.
+    pub(crate) fn new(alloc: Global) -> AssertedNodes
+        ensures { result ≡ [] }
+    {
+        AssertedNodes {
+            nodes: IndexSet::new(alloc),
+        }
+    }
+
+    /// How many there are.
+    pub(crate) fn len(&self) -> usize
+        ensures { result ≡ length self.now }
+    {
+        self.nodes.len()
+    }
+
+    /// Whether the node is asserted.
+    pub(crate) fn has(&self, n: u32) -> bool
+        ensures { IsTrue result ↔ Contains self.now n }
+    {
+        self.nodes.contains(&n)
+    }
+
+    /// Puts a node last.
+    pub(crate) fn put(&mut self, n: u32) -> Result<(), Memory>
+        requires { Contains self.old n → ⊥ }
+        ensures ok { OnOk result (self.new ≡ self.old ++ n ∷ []) }
+        ensures err { OnErr result (self.new ≡ self.old) }
+    {
+        self.nodes.insert(n)?;
+        Ok(())
+    }
+
+    /// Keeps the first ones.
+    pub(crate) fn keep_first(&mut self, count: usize)
+        ensures { self.new ≡ take count self.old }
+    {
+        self.nodes.truncate(count);
+    }
+}

@@ -1,0 +1,41 @@
+//! Laws of the definitions, each on a function that does nothing.
+ghost use Rattle.std.specs.Prelude.{◌≡◌, ◌≢◌, ℕ, ◌<◌, length};
+ghost use Rattle.formula_draft.specs.Draft.{Formula, IsFormula};
+ghost use Rattle.formula_table.specs.declared.enter_fault.EnterFault.{EnterFault as Fault};
+ghost use Rattle.formula_table.specs.declared.enter_fault.EnterFault.TheVariants.{Memory};
+ghost use Rattle.formula_table.specs.Formulas.{Formulas};
+ghost use Rattle.formula_assert.specs.Held.{Held};
+ghost use Rattle.formula_assert.specs.Asserts.{Asserts};
+ghost use Rattle.formula_assert.specs.Assertions.{Assertions, no_assertions, pushed, popped};
+ghost use Rattle.formula_assert.specs.AssertFormula.{AssertsFormula, StopsAssert};
+ghost use Rattle.formula_assert.specs.OutcomeLaws.{AreTables};
+ghost use Rattle.formula_assert.specs.Stands.{AreAssertions};
+ghost use Rattle.formula_assert.specs.InLevel.{KeepsLevels, StandAlike};
+
+/// To assert a node has one outcome at most.
+pub fn asserts_law()
+    ensures once { (formulas : Formulas) (n : ℕ) (before one other : Held) → Asserts formulas n before one → Asserts formulas n before other → one ≡ other }
+{}
+
+/// What came in a level goes with it, and a level that ends gives back what stood when it was opened.
+pub fn pop_law()
+    ensures gone { (before after : Assertions) → 0 < length before.saved → KeepsLevels before after → StandAlike (popped before) (popped after) }
+    ensures back { (before after : Assertions) → KeepsLevels (pushed before) after → StandAlike before (popped after) }
+{}
+
+/// The terms and the formulas are tables in what a stack holds, and they are at the start, after a level was opened or ended,
+/// and after a formula was asserted.
+pub fn tables_law()
+    ensures start { (terms nodes : ℕ) → AreTables (no_assertions terms nodes) }
+    ensures opened { (now : Assertions) → AreTables now → AreTables (pushed now) }
+    ensures ended { (now : Assertions) → AreTables now → AreTables (popped now) }
+    ensures asserted { (formula : Formula) (before after : Assertions) → IsFormula formula → AreTables before → AssertsFormula formula before after → AreTables after }
+    ensures held { (now : Assertions) → AreAssertions now → AreTables now }
+{}
+
+/// Over tables a formula is asserted in one way, and then not refused, and it is refused in one way, each but for want of memory.
+pub fn one_answer_law()
+    ensures once { (formula : Formula) (before one other : Assertions) → IsFormula formula → AreTables before → AssertsFormula formula before one → AssertsFormula formula before other → one ≡ other }
+    ensures not_both { (formula : Formula) (before one other : Assertions) (fault : Fault) → IsFormula formula → AreTables before → (fault ≢ Memory) → AssertsFormula formula before one → StopsAssert formula before other fault → ⊥ }
+    ensures alike { (formula : Formula) (before one other : Assertions) (fault also : Fault) → IsFormula formula → AreTables before → (fault ≢ Memory) → (also ≢ Memory) → StopsAssert formula before one fault → StopsAssert formula before other also → (fault ≡ also) × (one ≡ other) }
+{}

@@ -1,0 +1,12 @@
+pub mod Standing
+pub mod Same
+pub mod Match
+pub mod Justified
+pub mod Lawful
+pub mod State
+pub mod Questions
+pub mod Front
+pub mod OrderLaws
+pub mod LawfulLaws
+pub mod OneListLaws
+pub mod ReplayLaws

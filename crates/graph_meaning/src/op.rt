@@ -1,0 +1,55 @@
+//! An operation on a graph.
+ghost use Rattle.std.specs.Prelude.{◌≡◌, IfOk};
+
+use graph_terms::Memory;
+use graph_terms::Numbers;
+use graph_trigger::Trigger;
+use std::alloc::Global;
+
+/// One operation on a graph.
+#[derive(Debug, Drop)]
+pub enum Op {
+    /// A new row.
+    Add { symbol: u32, args: Numbers },
+    /// An equation.
+    Merge { left: u32, right: u32 },
+    /// A disequation.
+    Differ { left: u32, right: u32 },
+    /// A trigger that is matched from now on.
+    Live { trigger: Trigger },
+    /// A level opens.
+    Push,
+    /// The last level that is open ends, with all that came in it.
+    Pop,
+}
+
+impl Op {
+    /// An equal operation.
+    pub fn copy(&self, alloc: Global) -> Result<Op, Memory>
+        ensures { IfOk result (λ op. op ≡ self.now) }
+    {
+        match self {
+            Op::Add { symbol, args } => {
+                let args = args.copy(alloc)?;
+                Ok(Op::Add {
+                    symbol: *symbol,
+                    args,
+                })
+            }
+            Op::Merge { left, right } => Ok(Op::Merge {
+                left: *left,
+                right: *right,
+            }),
+            Op::Differ { left, right } => Ok(Op::Differ {
+                left: *left,
+                right: *right,
+            }),
+            Op::Live { trigger } => {
+                let trigger = trigger.copy(alloc)?;
+                Ok(Op::Live { trigger })
+            }
+            Op::Push => Ok(Op::Push),
+            Op::Pop => Ok(Op::Pop),
+        }
+    }
+}

@@ -1,0 +1,2 @@
+pub mod Trigger
+pub mod Validity

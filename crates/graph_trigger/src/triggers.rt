@@ -1,0 +1,60 @@
+//! A list of triggers, which contracts see as a list.
+ghost use Rattle.std.specs.Prelude.{◌≡◌, ◌<◌, ◌++◌, [], ◌∷◌, length, slice_get, OnOk, OnErr};
+
+use graph_terms::Memory;
+use crate::trigger::Trigger;
+use std::alloc::Global;
+use std::marker::Model;
+
+/// A list of triggers.
+#[derive(Debug, Drop)]
+pub struct Triggers {
+    triggers: Vec<Trigger>,
+}
+
+impl Model for Triggers {
+    ghost use Rattle.std.specs.Prelude.{List, ◌<◌, ◌^◌, vec_len};
+    ghost use Rattle.graph_trigger.specs.declared.trigger.Trigger.{Trigger};
+
+    ghost Value = { List Trigger };
+
+    ghost view = { λ list. list.triggers.items };
+
+    ghost invariant = { λ list. vec_len list.triggers < 2 ^ 32 };
+}
+
+impl Triggers {
+    /// The empty list.
+    pub fn new(alloc: Global) -> Triggers
+        ensures { result ≡ [] }
+    {
+        Triggers {
+            triggers: Vec::new(alloc),
+        }
+    }
+
+    /// Puts one more last.
+    pub fn push(&mut self, trigger: Trigger) -> Result<(), Memory>
+        ensures ok { OnOk result (self.new ≡ self.old ++ trigger ∷ []) }
+        ensures err { OnErr result (self.new ≡ self.old) }
+    {
+        if self.triggers.len() >= u32::MAX as usize {
+            return Err(Memory);
+        }
+        self.triggers.push(trigger)?;
+        Ok(())
+    }
+
+    pub fn len(&self) -> u32
+        ensures { result ≡ length self.now }
+    {
+        self.triggers.len() as u32
+    }
+
+    pub fn get(&self, i: u32) -> &Trigger
+        requires { i < length self.now }
+        ensures { slice_get self.now i ≡ Some result.now }
+    {
+        &self.triggers[i as usize]
+    }
+}

@@ -1,0 +1,62 @@
+//! The entries of a trigger.
+ghost use Rattle.std.specs.Prelude.{◌<◌, length, OnOk};
+ghost use Rattle.graph_trigger.specs.Trigger.{IsValid};
+ghost use Rattle.match_forest.specs.NodesInside.{Extends};
+ghost use Rattle.match_forest.specs.EntryList.{ExtendsList};
+ghost use Rattle.match_forest.specs.ForestInside.{Enters, EntersOne};
+
+use crate::entry::Entry;
+use crate::entry_table::EntryTable;
+use crate::node_table::NodeTable;
+use match_code::compile;
+use std::alloc::Global;
+use graph_terms::Memory;
+use graph_trigger::Trigger;
+
+/// Puts the entry of one start last, and its code into the trees.
+fn add_entry(
+    alloc: Global,
+    nodes: &mut NodeTable,
+    entries: &mut EntryTable,
+    trigger: &Trigger,
+    number: u32,
+    start: u32,
+) -> Result<(), Memory>
+    requires valid { IsValid trigger.now }
+    requires start { start < length trigger.now.roots }
+    ensures ok { OnOk result (EntersOne nodes.old nodes.new entries.old entries.new trigger.now number start) }
+    ensures nodes { Extends nodes.old nodes.new }
+    ensures entries { ExtendsList entries.old entries.new }
+{
+    let _nodes = nodes.len();
+    let _entries = entries.len();
+    let code = compile(alloc, trigger, start)?;
+    let end = nodes.put_code(alloc, &code)?;
+    let entry = Entry {
+        trigger: number,
+        start,
+    };
+    entries.push(entry, end)?;
+    Ok(())
+}
+
+/// Puts an entry for each start of the trigger last, and their codes into the trees.
+pub fn add_entries(
+    alloc: Global,
+    nodes: &mut NodeTable,
+    entries: &mut EntryTable,
+    trigger: &Trigger,
+    number: u32,
+) -> Result<(), Memory>
+    requires { IsValid trigger.now }
+    ensures ok { OnOk result (Enters nodes.old nodes.new entries.old entries.new trigger.now number (length trigger.now.roots)) }
+    ensures nodes { Extends nodes.old nodes.new }
+    ensures entries { ExtendsList entries.old entries.new }
+{
+    let _nodes = nodes.len();
+    let _entries = entries.len();
+    for start in 0..trigger.roots.len() {
+        add_entry(alloc, nodes, entries, trigger, number, start)?;
+    }
+    Ok(())
+}

@@ -1,0 +1,213 @@
+//! The graph with the codes of its live triggers.
+ghost use Rattle.std.specs.Prelude.{◌≡◌, ◌≤◌, ◌<◌, ◌↔◌, length, slice_get, Some, IsOk, IfOk, OnOk, OnErr, IsTrue};
+ghost use Rattle.graph_meaning.specs.declared.op.Op.TheVariants.{Live as LiveOp, Pop as PopOp};
+ghost use Rattle.graph_trigger.specs.declared.trigger.Trigger.{Trigger};
+ghost use Rattle.graph_meaning.specs.Lawful.{Allows};
+ghost use Rattle.graph_meaning.specs.Match.{AreMatches};
+ghost use Rattle.graph_meaning.specs.Standing.{terms_of, triggers_of, levels_of};
+ghost use Rattle.graph_meaning.specs.State.{first_state, state_after, table_of, IsFullFor};
+ghost use Rattle.graph_trigger.specs.Trigger.{IsValid};
+
+use crate::matches::matches_of;
+use match_forest::CodeForest;
+use graph_congruence::Graph;
+use std::alloc::Global;
+use std::marker::Model;
+use graph_meaning::{ClassGraph, Front, Op};
+use graph_terms::{Memory, Numbers, TableFault, TermRow};
+use graph_trigger::Trigger;
+
+/// Terms in classes, closed under congruence, with the codes of the live triggers in trees.
+#[derive(Drop)]
+pub struct MatchingGraph {
+    graph: Graph,
+    /// The codes of the live triggers, each under its number.
+    forest: CodeForest,
+}
+
+impl Model for MatchingGraph {
+    ghost use Rattle.graph_meaning.specs.State.{GraphState};
+    ghost use Rattle.match_graph.specs.GraphInside.{IsInStep};
+
+    ghost Value = { GraphState };
+
+    ghost view = { λ matching. matching.graph };
+
+    ghost invariant = { IsInStep };
+}
+
+impl MatchingGraph {
+    /// A graph of true and false alone, which may have so many terms.
+    pub fn new(alloc: Global, limit: u32) -> Result<MatchingGraph, Memory>
+        requires { 2 ≤ limit }
+        ensures { IfOk result (λ graph. graph ≡ first_state limit) }
+    {
+        let graph = Graph::new(alloc, limit)?;
+        Ok(MatchingGraph {
+            graph,
+            forest: CodeForest::new(alloc),
+        })
+    }
+
+    /// How many terms it may have. Takes no memory.
+    pub fn limit(&self) -> u32
+        ensures value { result ≡ self.now.limit }
+        ensures within { length (terms_of self.now.standing) ≤ self.now.limit }
+    {
+        let _forest = &self.forest;
+        self.graph.limit()
+    }
+
+    /// How many levels are open. Takes no memory.
+    pub fn depth(&self) -> u32
+        ensures { result ≡ levels_of self.now.standing }
+    {
+        let _forest = &self.forest;
+        self.graph.depth()
+    }
+
+    /// Whether the operation may be done next: the terms that it names stand, its row is new, its trigger is valid, and
+    /// a Pop has its Push. Takes no memory.
+    pub fn lawful(&self, op: &Op) -> bool
+        ensures { IsTrue result ↔ Allows self.now.standing op.now }
+    {
+        let _forest = &self.forest;
+        self.graph.lawful(op)
+    }
+
+    /// Makes a trigger live. Without memory the graph is as before.
+    fn live(&mut self, trigger: &Trigger) -> Result<(), Memory>
+        requires { IsValid trigger.now }
+        ensures ok { OnOk result (self.new ≡ state_after self.old (LiveOp trigger.now)) }
+        ensures err { OnErr result (self.new ≡ self.old) }
+    {
+        let before = self.forest.triggers();
+        self.forest.insert(trigger)?;
+        match self.graph.live(trigger) {
+            Ok(()) => Ok(()),
+            Err(refused) => {
+                self.forest.cut(before);
+                Err(refused)
+            }
+        }
+    }
+
+    /// Ends the last level that is open, with all that came in it.
+    fn pop(&mut self)
+        requires { 0 < levels_of self.old.standing }
+        ensures { self.new ≡ state_after self.old PopOp }
+    {
+        self.graph.pop();
+        self.forest.cut(self.graph.triggers());
+    }
+
+    /// Does the operation.
+    fn try_op(&mut self, op: &Op) -> Result<(), TableFault>
+        requires { Allows self.old.standing op.now }
+        ensures ok { OnOk result (self.new ≡ state_after self.old op.now) }
+        ensures full { result ≡ Err TableFault.Full → IsFullFor (table_of self.old) op.now }
+        ensures pop { op.now ≡ PopOp → IsOk result }
+        ensures err { OnErr result (self.new ≡ self.old) }
+    {
+        match op {
+            Op::Live { trigger } => self.live(trigger)?,
+            Op::Pop => self.pop(),
+            _ => self.graph.apply(op)?,
+        }
+        Ok(())
+    }
+
+    /// Does the operation. `Full` comes where it adds a term and as many stand as may. After a fault the graph is as
+    /// before. A Pop always succeeds, and takes no memory.
+    pub fn apply(&mut self, op: &Op) -> Result<(), TableFault>
+        requires { Allows self.old.standing op.now }
+        ensures ok { OnOk result (self.new ≡ state_after self.old op.now) }
+        ensures within { length (terms_of self.new.standing) ≤ self.new.limit }
+        ensures full { result ≡ Err TableFault.Full → IsFullFor (table_of self.old) op.now }
+        ensures pop { op.now ≡ PopOp → IsOk result }
+        ensures err { OnErr result (self.new ≡ self.old) }
+    {
+        let done = self.try_op(op);
+        let _limit = self.limit();
+        done
+    }
+
+    /// All matches of the live trigger with the number, as tuples of leaders in lexicographic order, each once.
+    pub fn matches(&self, alloc: Global, n: u32) -> Result<Vec<Numbers>, Memory>
+        requires { n < length (triggers_of self.now.standing) }
+        ensures { IfOk result (λ tuples. (trigger : Trigger) → slice_get (triggers_of self.now.standing) n ≡ Some trigger → AreMatches self.now.standing trigger tuples.items) }
+    {
+        matches_of(alloc, &self.forest, &self.graph, n)
+    }
+}
+
+impl ClassGraph for MatchingGraph {
+    ghost standing = { λ graph. graph.standing };
+
+    ghost done = { λ graph. graph.done };
+
+    fn len(&self) -> u32 {
+        let _forest = &self.forest;
+        self.graph.len()
+    }
+
+    fn row(&self, term: u32) -> &TermRow {
+        let _forest = &self.forest;
+        self.graph.row(term)
+    }
+
+    fn find(&self, symbol: u32, args: &[u32]) -> Option<u32> {
+        let _forest = &self.forest;
+        self.graph.find(symbol, args)
+    }
+
+    fn leader(&self, term: u32) -> u32 {
+        let _forest = &self.forest;
+        self.graph.leader(term)
+    }
+
+    fn same(&self, left: u32, right: u32) -> bool {
+        let _forest = &self.forest;
+        self.graph.same(left, right)
+    }
+
+    fn in_class(&self, term: u32, symbol: u32, k: u32) -> Option<u32> {
+        let _forest = &self.forest;
+        self.graph.in_class(term, symbol, k)
+    }
+
+    fn with_symbol(&self, symbol: u32, k: u32) -> Option<u32> {
+        let _forest = &self.forest;
+        self.graph.with_symbol(symbol, k)
+    }
+
+    fn parent(&self, term: u32, symbol: u32, place: u32, k: u32) -> Option<u32> {
+        let _forest = &self.forest;
+        self.graph.parent(term, symbol, place, k)
+    }
+
+    fn triggers(&self) -> u32 {
+        let _forest = &self.forest;
+        self.graph.triggers()
+    }
+
+    fn trigger(&self, n: u32) -> &Trigger {
+        let _forest = &self.forest;
+        self.graph.trigger(n)
+    }
+
+    fn version(&self) -> u64 {
+        let _forest = &self.forest;
+        self.graph.version()
+    }
+
+    fn front(&self) -> Front {
+        let _forest = &self.forest;
+        self.graph.front()
+    }
+
+    fn still_front(&self, front: &Front) -> bool {
+        let _forest = &self.forest;
+        self.graph.still_front(front)
+    }
+}

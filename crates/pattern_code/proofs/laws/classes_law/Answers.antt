@@ -1,5 +1,0 @@
-use Rattle.pattern_code.specs.ClassLaws.{yields_same}
-use Rattle.pattern_code.proofs.laws.classes_law.Goals as goal
-
-pub returns : goal.returns
-returns c = λ standing root code contents others tuple lawful same run. yields_same lawful same run

@@ -1,6 +1,0 @@
-use Rattle.std.proofs.Common.{◌≡◌, ◌≤◌, length, take}
-use Rattle.term_table.specs.Standing.{triggers_of}
-use Rattle.plain_graph.proofs.graph.PlainGraphClassGraph.triggers.Given as goal
-
-abbrev pub invariant-loop-done : goal.invariant-loop-done
-invariant-loop-done l = (l.count ≡ length (triggers_of (take l.done-index l.done-items))) × (l.count ≤ l.done-index)

@@ -1,6 +1,0 @@
-use Rattle.std.proofs.Common.{◌≡◌, ℕ, ◌<◌}
-use Rattle.plain_graph.specs.Labels.{label_of, IsCongruentPair}
-use Rattle.plain_graph.proofs.labels.find_congruent_to.Given as goal
-
-abbrev pub invariant-loop-right : goal.invariant-loop-right
-invariant-loop-right l = (t : ℕ) → t < l.right → IsCongruentPair l.table.rows l.labels l.left t → label_of l.labels l.left ≡ label_of l.labels t

@@ -1,6 +1,0 @@
-use Rattle.std.proofs.Common.{◌≡◌, ◌++◌, take, drop}
-use Rattle.plain_graph.specs.Labels.{relabelled}
-use Rattle.plain_graph.proofs.labels.relabel.Given as goal
-
-abbrev pub invariant-loop-label : goal.invariant-loop-label
-invariant-loop-label l = l.labels ≡ relabelled l.gone l.kept (take l.label-index l.initial.labels) ++ drop l.label-index l.initial.labels

@@ -1,5 +1,0 @@
-use Rattle.shape_laws.proofs.Formulas.{makes_formulas}
-use Rattle.shape_laws.proofs.laws.formula_law.Goals as goal
-
-pub returns : goal.returns
-returns c = makes_formulas

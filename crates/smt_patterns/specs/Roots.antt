@@ -1,0 +1,48 @@
+-- The rows of patterns, and what is refused as a pattern.
+use Rattle.std.specs.Prelude.{ℕ, Bool, true, false, nat_le, [], get_or, Option, Some, None}
+use Rattle.smt_text.specs.declared.token.Place.{Place}
+use Rattle.formula_draft.specs.declared.draft_row.DraftRow.{DraftRow}
+use Rattle.formula_draft.specs.declared.draft_row.DraftRow.TheVariants.{Var, App}
+use Rattle.formula_draft.specs.declared.draft_node.DraftNode.{DraftNode}
+use Rattle.formula_draft.specs.declared.draft_node.DraftNode.TheVariants.{Atom, And}
+use Rattle.smt_names.specs.declared.value.Value.{Value}
+use Rattle.smt_names.specs.declared.value.Value.TheVariants.{Term, Formula}
+use Rattle.smt_names.specs.declared.refusal.Refusal.TheVariants.{PatternIsVariable, PatternHasConnective, PatternTooLarge}
+use Rattle.smt_names.specs.Making.{Making, made, ◌>>=◌, ◌>>◌, want, refuse}
+use Rattle.smt_patterns.specs.Patterns.{size_of}
+
+-- the row of a positive atom
+abbrev pub positive_row : DraftNode → Option ℕ
+positive_row (Atom true r) = Some r
+positive_row itself = None
+
+-- the row of an atom, which must be there
+abbrev pub atom_row : Place → Option ℕ → Making ℕ
+atom_row at None = refuse PatternHasConnective at
+atom_row at (Some r) = made r
+
+-- the row of a term, which must not be a variable
+abbrev pub no_variable : Place → ℕ → DraftRow → Making ℕ
+no_variable at r (Var index) = refuse PatternIsVariable at
+no_variable at r (App symbol args) = made r
+
+-- the row of a pattern whose value is this
+abbrev pub root_of : Place → Value → Making ℕ
+root_of at (Term r sort) draft = no_variable at r (get_or draft.rows r (Var 0)) draft
+root_of at (Formula n c) draft = atom_row at (positive_row (get_or draft.nodes n (And []))) draft
+
+-- at most 256 symbols and variables, counted as a tree
+abbrev pub small_enough : Place → ℕ → Making (Unit {0})
+small_enough at r draft = want (nat_le (size_of draft.rows r) 256) PatternTooLarge at draft
+
+-- the row of a pattern whose value is this, which must be small enough
+abbrev pub small_root : Place → Value → Making ℕ
+small_root at v = do
+  r ← root_of at v
+  small_enough at r
+  made r
+
+-- whether a row is a variable
+abbrev pub is_no_application : DraftRow → Bool
+is_no_application (Var index) = true
+is_no_application (App symbol args) = false

@@ -1,8 +1,0 @@
-use Rattle.term_table.specs.LawfulLaws.{IsLawful-take, IsLawful-after}
-use Rattle.term_table.proofs.laws.lawful_law.Goals as goal
-
-pub returns-clause-front : goal.returns-clause-front
-returns-clause-front c = λ standing k lawful. IsLawful-take k standing lawful
-
-pub returns-clause-after : goal.returns-clause-after
-returns-clause-after c = IsLawful-after

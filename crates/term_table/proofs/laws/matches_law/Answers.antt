@@ -1,8 +1,0 @@
-use Rattle.term_table.specs.OneListLaws.{one_matches, one_item_matches}
-use Rattle.term_table.proofs.laws.matches_law.Goals as goal
-
-pub returns-clause-trigger : goal.returns-clause-trigger
-returns-clause-trigger c = one_matches
-
-pub returns-clause-item : goal.returns-clause-item
-returns-clause-item c = one_item_matches

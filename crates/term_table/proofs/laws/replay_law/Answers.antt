@@ -1,8 +1,0 @@
-use Rattle.term_table.specs.ReplayLaws.{done-replay, replay-push}
-use Rattle.term_table.proofs.laws.replay_law.Goals as goal
-
-pub returns-clause-count : goal.returns-clause-count
-returns-clause-count c = done-replay
-
-pub returns-clause-last : goal.returns-clause-last
-returns-clause-last c = replay-push

@@ -1,6 +1,0 @@
-use Rattle.std.proofs.Common.{ℕ, ◌<◌}
-use Rattle.term_table.specs.Validity.{IsReached}
-use Rattle.term_table.proofs.validity.are_reached.Given as goal
-
-abbrev pub invariant-loop-row : goal.invariant-loop-row
-invariant-loop-row l = (row : ℕ) → row < l.row → IsReached l.rows l.roots row
