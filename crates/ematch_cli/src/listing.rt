@@ -9,12 +9,12 @@ ghost use Rattle.ematch_cli.specs.Listing.{heading, IsTupleLine, IsTriggerListin
 ghost use Rattle.ematch_cli.specs.Writing.{Puts};
 
 use crate::printed::{push_entry, push_number};
-use match_graph::MatchingGraph;
-use smt_commands::Session;
-use std::alloc::{AllocError, Global};
 use graph_meaning::ClassGraph;
 use graph_terms::{Memory, Numbers};
 use graph_trigger::Trigger;
+use match_graph::MatchingGraph;
+use smt_commands::Session;
+use std::alloc::{AllocError, Global};
 
 /// Writes the heading of a trigger with so many matches.
 fn push_heading(text: &mut Vec<u8>, trigger: &Trigger, tuples: usize) -> Result<(), AllocError>

@@ -5,11 +5,11 @@ ghost use Rattle.ematch_cli.specs.Names.{names_of};
 ghost use Rattle.ematch_cli.specs.Printed.{symbol_text, HasTreeSize, IsTermText, IsPrinted, IsEntry};
 ghost use Rattle.ematch_cli.specs.Writing.{Puts};
 
+use graph_meaning::ClassGraph;
 use itoa::Buffer;
 use smt_commands::Session;
 use smt_text::is_simple;
 use std::alloc::AllocError;
-use graph_meaning::ClassGraph;
 
 /// The most symbols of a term that is written out.
 const MOST_SYMBOLS: u32 = 256;

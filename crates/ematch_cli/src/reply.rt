@@ -13,15 +13,15 @@ use crate::error_line::{refusal_line, room_line};
 use crate::listing::listing;
 use crate::response::{info_text, success, unsupported};
 use crate::unanswered::Unanswered;
-use formula_assert::AssertionStack;
 use em_outside::Limits;
+use formula_assert::AssertionStack;
 use formula_draft::Formula;
 use formula_table::EnterFault;
+use graph_terms::Memory;
 use smt_commands::{Command, Session};
 use smt_names::Stop;
 use smt_text::Tree;
 use std::alloc::{AllocError, Global};
-use graph_terms::Memory;
 
 /// What answers a command.
 #[derive(Debug, Drop)]

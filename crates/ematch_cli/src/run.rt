@@ -7,10 +7,10 @@ ghost use Rattle.ematch_cli.specs.Words.{AreWords};
 
 use crate::script::answer_script;
 use crate::status::{Status, text_of};
-use em_words::{Job, WordsFault, read_words};
 use em_outside::{Limits, Sink, Source, write_all};
-use std::alloc::Global;
+use em_words::{Job, WordsFault, read_words};
 use graph_terms::Memory;
+use std::alloc::Global;
 
 /// Whether the words ask for matches without workers.
 fn are_words(alloc: Global, words: &[String]) -> Result<bool, Memory>

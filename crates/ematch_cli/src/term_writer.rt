@@ -7,9 +7,9 @@ ghost use Rattle.ematch_cli.specs.WritesTerm.{WritesText, StopsText};
 
 use crate::printed::push_printed;
 use em_outside::{Sink, write_all};
+use graph_meaning::ClassGraph;
 use smt_commands::Session;
 use std::alloc::Global;
-use graph_meaning::ClassGraph;
 
 /// Why a term was not written whole.
 #[derive(Clone, Copy, Debug, PartialEq, Eq)]

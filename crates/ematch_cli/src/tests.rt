@@ -2,11 +2,11 @@ ghost use Rattle.em_outside.specs.Limits.{AreLawful};
 
 use super::*;
 use em_outside::{Limits, MemSink, MemSource, Sink, Source};
+use graph_meaning::ClassGraph;
 use match_graph::MatchingGraph;
 use smt_commands::Session;
 use std::alloc::{AllocError, Global};
 use std::test::Fail;
-use graph_meaning::ClassGraph;
 
 const DECLARED: &str =
     "(declare-sort U 0) (declare-fun f (U) U) (declare-fun g (U) U) (declare-fun k (U U) U) (declare-fun p (U) Bool) (declare-const a U) (declare-const b U) (declare-const c U)\n";

@@ -1,8 +1,8 @@
 //! Why a command gets no answer.
 ghost use Rattle.std.specs.Prelude.{◌≡◌};
 
-use std::alloc::{AllocError, AllocFailed};
 use graph_terms::Memory;
+use std::alloc::{AllocError, AllocFailed};
 
 /// Why a command gets no answer.
 #[derive(Debug, Drop)]

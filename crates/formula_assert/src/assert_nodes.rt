@@ -13,10 +13,10 @@ ghost use Rattle.formula_assert.specs.WorkList.{AssertsNext};
 use crate::asserted_nodes::AssertedNodes;
 use crate::graph_terms::GraphTerms;
 use formula_table::{FormulaTable, Node};
-use std::alloc::Global;
 use graph_meaning::Op;
 use graph_terms::Memory;
 use graph_trigger::Triggers;
+use std::alloc::Global;
 
 /// The term that is true.
 const TRUE_TERM: u32 = 0;

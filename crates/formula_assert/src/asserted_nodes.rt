@@ -1,10 +1,10 @@
 //! The numbers of the asserted nodes.
 ghost use Rattle.std.specs.Prelude.{◌≡◌, ◌≤◌, ◌↔◌, ◌++◌, [], ◌∷◌, length, take, Contains, IsTrue, OnOk, OnErr};
 
+use graph_terms::Memory;
 use indexmap::IndexSet;
 use std::alloc::Global;
 use std::marker::Model;
-use graph_terms::Memory;
 
 /// Numbers of nodes in the order in which they were asserted, each once. Contracts see a list.
 #[derive(Drop)]

@@ -12,11 +12,11 @@ use crate::level::Level;
 use em_outside::Limits;
 use formula_draft::Formula;
 use formula_table::{EnterFault, FormulaTable};
+use graph_meaning::{ClassGraph, Op};
+use graph_terms::Memory;
 use match_graph::MatchingGraph;
 use std::alloc::Global;
 use std::marker::Model;
-use graph_meaning::{ClassGraph, Op};
-use graph_terms::Memory;
 
 /// The most levels that a count of levels can tell.
 const MOST_LEVELS: usize = 4_294_967_295;

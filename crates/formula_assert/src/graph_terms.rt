@@ -8,11 +8,11 @@ ghost use Rattle.graph_meaning.specs.State.{first_state, state_after};
 ghost use Rattle.graph_meaning.specs.declared.op.Op.TheVariants.{Pop as PopOp};
 ghost use Rattle.formula_assert.specs.GraphTerms.{with_terms};
 
+use graph_meaning::{ClassGraph, Op};
+use graph_terms::{Memory, Numbers, TableFault, TermEntry};
 use match_graph::MatchingGraph;
 use std::alloc::Global;
 use std::marker::Model;
-use graph_meaning::{ClassGraph, Op};
-use graph_terms::{Memory, Numbers, TableFault, TermEntry};
 
 /// A graph whose terms are entered one by one: a row that stands keeps its number, and a new one is added last.
 #[derive(Drop)]

@@ -3,8 +3,8 @@ ghost use Rattle.std.specs.Prelude.{◌≡◌, IfOk};
 ghost use Rattle.formula_draft.specs.DraftRow.{row_key};
 
 use crate::items::key_of;
-use std::alloc::Global;
 use graph_terms::{Memory, Numbers};
+use std::alloc::Global;
 
 /// A variable, or a symbol over earlier rows. A row stands for the term that it unfolds to.
 #[derive(Debug, Drop)]

@@ -2,10 +2,10 @@
 ghost use Rattle.std.specs.Prelude.{◌≡◌, ◌<◌, Some, length, slice_get};
 ghost use Rattle.formula_draft.specs.Draft.{IsFormula, finished};
 
-use crate::formula_draft::FormulaDraft;
 use crate::draft_forall::DraftForall;
 use crate::draft_node::DraftNode;
 use crate::draft_row::DraftRow;
+use crate::formula_draft::FormulaDraft;
 use std::marker::Model;
 
 /// One formula, as a node over rows, earlier nodes and foralls.

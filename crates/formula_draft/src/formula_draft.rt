@@ -2,17 +2,17 @@
 ghost use Rattle.std.specs.Prelude.{◌≡◌, ◌<◌, ◌++◌, ◌∷◌, [], Some, None, length, slice_get, IfOk, IfErr, OnOk, OnErr};
 ghost use Rattle.formula_draft.specs.Draft.{empty_draft, with_row, with_node, with_forall, RefusesRow, RefusesNode, IsFormula, draft_forall, finished};
 
-use crate::items::put;
-use crate::formula::Formula;
 use crate::draft_fault::DraftFault;
 use crate::draft_forall::DraftForall;
 use crate::draft_node::DraftNode;
 use crate::draft_row::DraftRow;
+use crate::formula::Formula;
+use crate::items::put;
+use graph_terms::Memory;
+use graph_trigger::Triggers;
 use indexmap::IndexMap;
 use std::alloc::Global;
 use std::marker::Model;
-use graph_terms::Memory;
-use graph_trigger::Triggers;
 
 /// Rows, nodes and foralls by number, whatever they name. Rows and nodes that stand are not put again.
 /// That what they make is a formula is asked once, at `finish`.

@@ -2,15 +2,15 @@
 ghost use Rattle.std.specs.Prelude.{◌≡◌, ◌<◌, ◌++◌, ◌∷◌, [], Some, None, length, slice_get, IfOk, IfErr, OnOk, OnErr};
 ghost use Rattle.formula_draft.specs.Draft.{empty_draft, with_row, with_node, with_forall, RefusesRow, RefusesNode, FitsRow, FitsNode, FitsForall, IsDraft, IsClosed, draft_forall, finished};
 
-use crate::formula::Formula;
-use crate::formula_draft::FormulaDraft;
 use crate::draft_fault::DraftFault;
 use crate::draft_node::DraftNode;
 use crate::draft_row::DraftRow;
-use std::alloc::Global;
-use std::marker::Model;
+use crate::formula::Formula;
+use crate::formula_draft::FormulaDraft;
 use graph_terms::Memory;
 use graph_trigger::Triggers;
+use std::alloc::Global;
+use std::marker::Model;
 
 /// Rows, nodes and foralls by number, each of which names what stands. Rows and nodes that stand are not put again.
 #[derive(Drop)]

@@ -3,9 +3,9 @@ ghost use Rattle.std.specs.Prelude.{◌≡◌, ◌≤◌, ◌∷◌, None, lengt
 ghost use Rattle.std.specs.List.{position_from};
 ghost use Rattle.formula_draft.specs.Items.{with_item, same_key, Puts};
 
+use graph_terms::Memory;
 use indexmap::IndexMap;
 use std::alloc::Global;
-use graph_terms::Memory;
 
 /// A key of a kind and its numbers.
 pub fn key_of(alloc: Global, kind: u32, numbers: &[u32]) -> Result<Vec<u32>, Memory>

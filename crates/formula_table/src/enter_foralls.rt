@@ -9,10 +9,10 @@ ghost use Rattle.formula_table.specs.EntryInside.{ForallGrows, ForallsEntered};
 use crate::enter_rows::push_number;
 use crate::formula_table::FormulaTable;
 use crate::table_forall::TableForall;
-use formula_draft::{Formula, DraftForall};
-use std::alloc::Global;
+use formula_draft::{DraftForall, Formula};
 use graph_terms::Memory;
 use graph_trigger::Triggers;
+use std::alloc::Global;
 
 /// A forall of a formula under its number in the table.
 fn numbered_forall(alloc: Global, number: u32, new: &DraftForall) -> Result<TableForall, Memory>

@@ -12,9 +12,9 @@ use crate::enter_fault::EnterFault;
 use crate::enter_rows::{push_number, renamed};
 use crate::formula_table::FormulaTable;
 use crate::node::Node;
-use formula_draft::{Formula, DraftNode};
-use std::alloc::Global;
+use formula_draft::{DraftNode, Formula};
 use graph_terms::Memory;
+use std::alloc::Global;
 
 /// The node of the table that a node of the formula becomes, over terms, numbers of foralls and numbers of earlier nodes.
 fn next_node(

@@ -9,9 +9,9 @@ ghost use Rattle.formula_table.specs.Entry.{entered_row, RowsGrow};
 ghost use Rattle.formula_table.specs.EntryInside.{NumbersStand, StopsTerm, RowGrows, StopsRow, StopsRows};
 
 use crate::enter_fault::EnterFault;
-use formula_draft::{Formula, DraftRow};
-use std::alloc::Global;
+use formula_draft::{DraftRow, Formula};
 use graph_terms::{Memory, Numbers, TermEntry};
+use std::alloc::Global;
 
 /// Puts a number last.
 pub(crate) fn push_number(numbers: &mut Vec<u32>, number: u32) -> Result<(), Memory>

@@ -15,11 +15,11 @@ use crate::reached::{reached_foralls, reached_nodes, reached_rows};
 use crate::table_forall::TableForall;
 use formula_draft::Formula;
 use formula_draft::items::put;
+use graph_terms::{Memory, TermEntry};
+use graph_trigger::Triggers;
 use indexmap::IndexMap;
 use std::alloc::Global;
 use std::marker::Model;
-use graph_terms::{Memory, TermEntry};
-use graph_trigger::Triggers;
 
 /// Formulas and foralls by number. A node stands once, and its number is its place.
 #[derive(Drop)]
@@ -99,7 +99,11 @@ impl FormulaTable {
     /// First its rows are added as terms. Then its foralls get the next numbers, which their triggers carry with their
     /// places. Then its nodes are entered: a node that stands keeps its number, and the terms of an equation are put in
     /// ascending order. Gives the number of the root. After a refusal the table is as before, and the terms that were added stand.
-    pub fn enter<E: TermEntry>(&mut self, terms: &mut E, formula: &Formula) -> Result<u32, EnterFault>
+    pub fn enter<E: TermEntry>(
+        &mut self,
+        terms: &mut E,
+        formula: &Formula,
+    ) -> Result<u32, EnterFault>
         ensures ok { IfOk result (Enters (E.grown terms.old terms.new) formula.now (E.rows terms.old) (E.limit terms.old) self.old self.new) }
         ensures fault { IfErr result (StopsEntry (E.grown terms.old terms.new) (λ added. (middle : E) × E.grown terms.old middle added × E.refused middle terms.new) formula.now (E.rows terms.old) (E.limit terms.old) self.old) }
         ensures err { OnErr result (self.new ≡ self.old) }
@@ -135,7 +139,12 @@ impl FormulaTable {
     }
 
     /// Enters the reached foralls and nodes, all or none. Gives the number of the root.
-    fn enter_all(&mut self, formula: &Formula, nodes: &[bool], terms: &[u32]) -> Result<u32, EnterFault>
+    fn enter_all(
+        &mut self,
+        formula: &Formula,
+        nodes: &[bool],
+        terms: &[u32],
+    ) -> Result<u32, EnterFault>
         requires formula { IsFormula formula.now }
         requires reached { AreMarks (length formula.now.nodes) (ReachesNode formula.now.nodes formula.now.root) nodes.now }
         requires terms { length terms.now ≡ length formula.now.rows }

@@ -18,11 +18,11 @@ pub use table_forall::TableForall;
 #[cfg(test)]
 mod tests {
     use super::*;
-    use formula_draft::{Formula, FormulaDraft, DraftFault, FormulaMaker, DraftNode, DraftRow};
-    use std::alloc::Global;
-    use std::test::Fail;
+    use formula_draft::{DraftFault, DraftNode, DraftRow, Formula, FormulaDraft, FormulaMaker};
     use graph_terms::{Memory, Numbers, TermTable};
     use graph_trigger::Triggers;
+    use std::alloc::Global;
+    use std::test::Fail;
 
     /// The atom of a constant.
     fn atom(alloc: Global) -> Result<Formula, DraftFault> {

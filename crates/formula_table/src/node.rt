@@ -3,8 +3,8 @@ ghost use Rattle.std.specs.Prelude.{◌≡◌, IfOk};
 ghost use Rattle.formula_table.specs.Node.{entered_key};
 
 use formula_draft::items::key_of;
-use std::alloc::Global;
 use graph_terms::{Memory, Numbers};
+use std::alloc::Global;
 
 /// A literal over terms, a connective over earlier nodes, or a forall. A node stands for the formula that it unfolds to.
 #[derive(Debug, Drop)]

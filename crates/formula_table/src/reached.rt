@@ -7,9 +7,9 @@ ghost use Rattle.formula_table.specs.Marks.{Marks, AreMarks, IsNamed};
 ghost use Rattle.formula_draft.specs.Draft.{IsFormula};
 ghost use Rattle.formula_table.specs.Entry.{ReachesForall};
 
-use formula_draft::{Formula, DraftNode, DraftRow};
-use std::alloc::Global;
+use formula_draft::{DraftNode, DraftRow, Formula};
 use graph_terms::Memory;
+use std::alloc::Global;
 
 /// Marks these numbers.
 fn mark(marks: &mut [bool], places: &[u32])
@@ -68,7 +68,11 @@ fn mark_args(marks: &mut [bool], row: &DraftRow)
 }
 
 /// The nodes that are reached from the start, without going into the bodies of foralls.
-pub(crate) fn reached_nodes(alloc: Global, formula: &Formula, start: u32) -> Result<Vec<bool>, Memory>
+pub(crate) fn reached_nodes(
+    alloc: Global,
+    formula: &Formula,
+    start: u32,
+) -> Result<Vec<bool>, Memory>
     requires formula { IsFormula formula.now }
     requires stands { start < length formula.now.nodes }
     ensures { IfOk result (λ marks. AreMarks (length formula.now.nodes) (ReachesNode formula.now.nodes start) marks.items) }
@@ -87,7 +91,12 @@ pub(crate) fn reached_nodes(alloc: Global, formula: &Formula, start: u32) -> Res
 }
 
 /// The rows that these nodes name.
-fn named_rows(alloc: Global, formula: &Formula, start: u32, nodes: &[bool]) -> Result<Vec<bool>, Memory>
+fn named_rows(
+    alloc: Global,
+    formula: &Formula,
+    start: u32,
+    nodes: &[bool],
+) -> Result<Vec<bool>, Memory>
     requires formula { IsFormula formula.now }
     requires nodes { AreMarks (length formula.now.nodes) (ReachesNode formula.now.nodes start) nodes.now }
     ensures { IfOk result (λ marks. AreMarks (length formula.now.rows) (IsNamed rows_of formula.now.nodes start) marks.items) }

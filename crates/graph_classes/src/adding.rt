@@ -15,9 +15,9 @@ use crate::change::Change;
 use crate::classes::Classes;
 use crate::place::Place;
 use crate::term_list::TermList;
-use std::alloc::Global;
 use graph_meaning::{Done, Op};
 use graph_terms::{Memory, Numbers, TableFault};
+use std::alloc::Global;
 
 impl Classes {
     /// Makes room for what comes with one row.

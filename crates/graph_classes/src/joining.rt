@@ -6,8 +6,8 @@ ghost use Rattle.graph_classes.specs.Listed.{IsListed};
 ghost use Rattle.graph_classes.specs.Indexed.{IsIndexed, IsRelabelled, IsClosing, AreBelow, Between};
 
 use crate::classes::Classes;
-use std::alloc::Global;
 use graph_terms::Memory;
+use std::alloc::Global;
 
 impl Classes {
     /// Moves the members and the uses of one label to another.

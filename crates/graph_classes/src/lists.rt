@@ -5,10 +5,10 @@ ghost use Rattle.graph_classes.specs.Shown.{lists_in};
 
 use crate::place::Place;
 use crate::rising::Rising;
+use graph_terms::Memory;
 use std::alloc::Global;
 use std::collections::HashMap;
 use std::marker::Model;
-use graph_terms::Memory;
 
 /// A list of terms for each place, empty at first.
 #[derive(Drop)]

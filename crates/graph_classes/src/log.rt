@@ -2,10 +2,10 @@
 ghost use Rattle.std.specs.Prelude.{◌≡◌, ◌<◌, ◌^◌, [], ◌∷◌, ◌++◌, length, take, ◌-◌, slice_get, IfSome, OnOk, OnErr};
 ghost use Rattle.std.specs.Option.{option_copied};
 
-use std::alloc::Global;
-use std::marker::Model;
 use graph_meaning::Done;
 use graph_terms::Memory;
+use std::alloc::Global;
+use std::marker::Model;
 
 /// A list of operations with their serial numbers.
 #[derive(Drop)]

@@ -10,9 +10,9 @@ ghost use Rattle.graph_classes.specs.Unions.{AreUnions};
 
 use crate::classes::Classes;
 use crate::unions::Unions;
-use std::alloc::Global;
 use graph_meaning::{Done, Op};
 use graph_terms::Memory;
+use std::alloc::Global;
 
 impl Classes {
     /// Logs an operation that changes no row and no class.

@@ -11,9 +11,9 @@ use crate::parts::Parts;
 use crate::place::Place;
 use crate::signatures::Signatures;
 use crate::term_list::TermList;
-use std::alloc::Global;
 use graph_terms::{Memory, TermTable};
 use graph_trail::Trail;
+use std::alloc::Global;
 
 /// A list of one term.
 fn list_of(alloc: Global, term: u32) -> Result<TermList, Memory>

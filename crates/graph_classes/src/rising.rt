@@ -2,10 +2,10 @@
 ghost use Rattle.std.specs.Prelude.{◌≡◌, ◌<◌, ℕ, [], AllPairs, IfOk, OnErr, IsTrue, ◌↔◌, slice_get, remove};
 ghost use Rattle.graph_classes.specs.Rising.{Enters};
 
+use graph_terms::Memory;
 use smallvec::SmallVec;
 use std::alloc::Global;
 use std::marker::Model;
-use graph_terms::Memory;
 
 /// Numbers, the least first, none twice. Up to four are kept in the value itself.
 #[derive(Drop)]

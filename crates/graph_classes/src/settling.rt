@@ -7,9 +7,9 @@ ghost use Rattle.graph_classes.specs.Indexed.{IsIndexed, IsClosing, AreBelow, Ha
 
 use crate::classes::Classes;
 use crate::unions::Unions;
-use std::alloc::Global;
 use graph_meaning::Union;
 use graph_terms::Memory;
+use std::alloc::Global;
 
 impl Classes {
     /// Takes pending pairs off, up to one whose terms have two labels.

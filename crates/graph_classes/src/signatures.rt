@@ -2,10 +2,10 @@
 ghost use Rattle.std.specs.Prelude.{◌≡◌, ◌<◌, ℕ, List, [], ◌∷◌, ◌++◌, length, take, ◌-◌, slice_index, IfOk, OnOk, OnErr, option_copied, None};
 ghost use Rattle.graph_classes.specs.Table.{found};
 
+use graph_terms::Memory;
 use indexmap::IndexMap;
 use std::alloc::Global;
 use std::marker::Model;
-use graph_terms::Memory;
 
 /// The signatures that were met, in the order in which they came, each with its first term.
 ///

@@ -6,8 +6,8 @@ ghost use Rattle.graph_classes.specs.Closure.{signature as signature_of};
 ghost use Rattle.graph_classes.specs.Indexed.{IsSignable, HasUsesMoved, IsClosing, AreBelow};
 
 use crate::classes::Classes;
-use std::alloc::Global;
 use graph_terms::{Memory, TermRow};
+use std::alloc::Global;
 
 /// A term's symbol with the labels of its arguments.
 fn signature(alloc: Global, labels: &[u32], row: &TermRow) -> Result<Vec<u32>, Memory>

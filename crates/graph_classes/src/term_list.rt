@@ -1,10 +1,10 @@
 //! A list of terms in no order, which grows and shrinks at its end.
 ghost use Rattle.std.specs.Prelude.{◌≡◌, ◌<◌, [], ◌∷◌, ◌++◌, length, take, ◌-◌, slice_index, OnOk, OnErr};
 
+use graph_terms::Memory;
 use smallvec::SmallVec;
 use std::alloc::Global;
 use std::marker::Model;
-use graph_terms::Memory;
 
 /// A list of terms. Up to four are kept in the value itself.
 #[derive(Drop)]

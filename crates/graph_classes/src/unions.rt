@@ -1,10 +1,10 @@
 //! The unions that an operation lists.
 ghost use Rattle.std.specs.Prelude.{◌≡◌, ◌<◌, [], ◌∷◌, ◌++◌, length, slice_get, OnOk, OnErr};
 
-use std::alloc::Global;
-use std::marker::Model;
 use graph_meaning::Union;
 use graph_terms::Memory;
+use std::alloc::Global;
+use std::marker::Model;
 
 /// A list of unions.
 #[derive(Debug, Drop)]

@@ -18,11 +18,11 @@ ghost use Rattle.graph_congruence.specs.Last.{DropsLast, IsLastShare};
 use crate::clash::Clash;
 use crate::share::{Share, share_of};
 use graph_classes::{Added, Classes, Place, Unions};
-use std::alloc::Global;
-use std::marker::Model;
 use graph_meaning::{ClassGraph, Done, Front, Op};
 use graph_terms::{Memory, Numbers, TableFault, TermRow};
 use graph_trigger::Trigger;
+use std::alloc::Global;
+use std::marker::Model;
 
 /// The most arguments that a row may have.
 const MOST_ARGS: u32 = 255;

@@ -6,5 +6,5 @@ pub mod graph;
 pub mod share;
 
 pub use clash::Clash;
-pub use graph_classes::{Added, Unions};
 pub use graph::Graph;
+pub use graph_classes::{Added, Unions};

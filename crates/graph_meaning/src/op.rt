@@ -1,8 +1,7 @@
 //! An operation on a graph.
 ghost use Rattle.std.specs.Prelude.{◌≡◌, IfOk};
 
-use graph_terms::Memory;
-use graph_terms::Numbers;
+use graph_terms::{Memory, Numbers};
 use graph_trigger::Trigger;
 use std::alloc::Global;
 

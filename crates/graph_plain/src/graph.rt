@@ -11,11 +11,11 @@ ghost use Rattle.graph_plain.specs.Picks.{IsAskable, IsPicked};
 
 use crate::labels::{close, reset};
 use crate::pick::Pick;
-use std::alloc::Global;
-use std::marker::Model;
 use graph_meaning::{ClassGraph, Done, Front, Op};
 use graph_terms::{Memory, Numbers, TableFault, TermRow, TermTable};
 use graph_trigger::Trigger;
+use std::alloc::Global;
+use std::marker::Model;
 
 /// The most arguments that a row may have.
 const MOST_ARGS: u32 = 255;

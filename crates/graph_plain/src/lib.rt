@@ -13,12 +13,12 @@ pub use listing::list_matches;
 #[cfg(test)]
 mod tests {
     use super::*;
-    use std::alloc::Global;
-    use std::test::Fail;
-    use std::thread::join;
     use graph_meaning::{ClassGraph, Op};
     use graph_terms::{Memory, Numbers, TableFault};
     use graph_trigger::{PatternRow, PatternRows, Trigger};
+    use std::alloc::Global;
+    use std::test::Fail;
+    use std::thread::join;
 
     fn add(alloc: Global, symbol: u32, args: &[u32]) -> Result<Op, Memory> {
         let args = Numbers::from_slice(alloc, args)?;

@@ -8,10 +8,11 @@ mod labels;
 mod pair;
 mod step;
 
-use graph_congruence::{Clash, Graph};
 use deed::Deed::{Add, Differ, Live, Merge, Pop, Push};
 use draw::draw_list;
 use fact::Fact::{Apart, Clashes, Depth, Equal, Fixed, Fresh, Led, Limit, NoClash, Terms, Version};
+use graph_congruence::{Clash, Graph};
+use graph_meaning::ClassGraph;
 use pair::Pair;
 use std::alloc::Global;
 use std::process::Abort;
@@ -19,7 +20,6 @@ use std::test::Fail;
 use std::thread::{Threads, join};
 use step::Step::{Call, Do, Falls, Find, Full, Mark, Refuse, See, Stands, TakeBack};
 use step::{Step, passes};
-use graph_meaning::ClassGraph;
 
 /// Does the steps in order.
 fn run(rt: &impl Abort, alloc: Global, pair: &mut Pair, steps: &[Step]) -> Result<(), Fail> {

@@ -1,8 +1,7 @@
 //! A row of patterns.
 ghost use Rattle.std.specs.Prelude.{◌≡◌, IfOk};
 
-use graph_terms::Memory;
-use graph_terms::Numbers;
+use graph_terms::{Memory, Numbers};
 use std::alloc::Global;
 
 /// A variable, or a symbol over earlier rows. A row stands for the pattern that it unfolds to.

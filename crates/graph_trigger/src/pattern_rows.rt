@@ -1,8 +1,8 @@
 //! A list of pattern rows, which contracts see as a list.
 ghost use Rattle.std.specs.Prelude.{◌≡◌, ◌<◌, ◌++◌, [], ◌∷◌, length, slice_get, IfOk, OnOk, OnErr};
 
-use graph_terms::Memory;
 use crate::pattern_row::PatternRow;
+use graph_terms::Memory;
 use std::alloc::Global;
 use std::marker::Model;
 

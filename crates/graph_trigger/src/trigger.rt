@@ -1,12 +1,11 @@
 //! Triggers.
 ghost use Rattle.std.specs.Prelude.{◌≡◌, ◌≤◌, ◌↔◌, IfOk, IsTrue, length};
 
-use graph_terms::Memory;
-use graph_terms::Numbers;
 use crate::pattern_rows::PatternRows;
 use crate::validity::{
     are_applications, are_new, are_reached, are_small, fit_rows, have_variables,
 };
+use graph_terms::{Memory, Numbers};
 use std::alloc::Global;
 
 /// The patterns of one trigger of a forall: those that `roots` name, in order.

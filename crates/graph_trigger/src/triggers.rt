@@ -1,8 +1,8 @@
 //! A list of triggers, which contracts see as a list.
 ghost use Rattle.std.specs.Prelude.{◌≡◌, ◌<◌, ◌++◌, [], ◌∷◌, length, slice_get, OnOk, OnErr};
 
-use graph_terms::Memory;
 use crate::trigger::Trigger;
+use graph_terms::Memory;
 use std::alloc::Global;
 use std::marker::Model;
 

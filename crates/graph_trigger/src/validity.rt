@@ -3,9 +3,9 @@ ghost use Rattle.std.specs.Prelude.{◌≡◌, ◌<◌, ◌≤◌, ◌↔◌, le
 ghost use Rattle.graph_trigger.specs.Trigger.{HasSize, IsApplication};
 ghost use Rattle.graph_trigger.specs.Validity.{AreApplications, AreNew, AreReached, AreSmall, FitRows, FitsRow, HaveVariables, IsLarge, IsNewRow, IsPart, IsReached, IsSize, NameEarlier, VariableStands};
 
-use graph_terms::Numbers;
 use crate::pattern_row::PatternRow;
 use crate::pattern_rows::PatternRows;
+use graph_terms::Numbers;
 
 /// The most parts that a row may have.
 const MOST_PARTS: u32 = 255;

@@ -11,10 +11,10 @@ pub use layout::compile;
 #[cfg(test)]
 mod tests {
     use super::*;
-    use std::alloc::Global;
-    use std::test::Fail;
     use graph_terms::{Memory, Numbers};
     use graph_trigger::{PatternRow, PatternRows, Trigger};
+    use std::alloc::Global;
+    use std::test::Fail;
 
     /// A pattern row as a test writes it.
     #[derive(Clone, Copy)]

@@ -5,9 +5,9 @@ ghost use Rattle.match_forest.specs.EntryList.{list_front, with_entry};
 
 use crate::entry::Entry;
 use crate::index::Index;
+use graph_terms::Memory;
 use std::alloc::Global;
 use std::marker::Model;
-use graph_terms::Memory;
 
 /// Entries by number, with the nodes at which their codes end.
 #[derive(Debug, Drop)]

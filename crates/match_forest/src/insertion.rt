@@ -8,10 +8,10 @@ ghost use Rattle.match_forest.specs.ForestInside.{Enters, EntersOne};
 use crate::entry::Entry;
 use crate::entry_table::EntryTable;
 use crate::node_table::NodeTable;
-use match_code::compile;
-use std::alloc::Global;
 use graph_terms::Memory;
 use graph_trigger::Trigger;
+use match_code::compile;
+use std::alloc::Global;
 
 /// Puts the entry of one start last, and its code into the trees.
 fn add_entry(

@@ -18,11 +18,11 @@ pub use forest::CodeForest;
 #[cfg(test)]
 mod tests {
     use super::*;
+    use graph_terms::{Memory, Numbers};
+    use graph_trigger::{PatternRow, PatternRows, Trigger};
     use match_code::Instr;
     use std::alloc::Global;
     use std::test::Fail;
-    use graph_terms::{Memory, Numbers};
-    use graph_trigger::{PatternRow, PatternRows, Trigger};
 
     /// A pattern row as a test writes it.
     #[derive(Clone, Copy)]

@@ -7,10 +7,10 @@ ghost use Rattle.match_forest.specs.NodesInside.{above_of, Extends, Leads, Puts}
 
 use crate::index::Index;
 use crate::instrs::{copy_instr, same_instr};
+use graph_terms::Memory;
 use match_code::{Code, Instr};
 use std::alloc::Global;
 use std::marker::Model;
-use graph_terms::Memory;
 
 /// Nodes by number. What begins alike is shared: two roots, or two nodes next after one, differ.
 #[derive(Debug, Drop)]

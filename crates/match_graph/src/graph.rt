@@ -9,13 +9,13 @@ ghost use Rattle.graph_meaning.specs.State.{first_state, state_after, table_of, 
 ghost use Rattle.graph_trigger.specs.Trigger.{IsValid};
 
 use crate::matches::matches_of;
-use match_forest::CodeForest;
 use graph_congruence::Graph;
-use std::alloc::Global;
-use std::marker::Model;
 use graph_meaning::{ClassGraph, Front, Op};
 use graph_terms::{Memory, Numbers, TableFault, TermRow};
 use graph_trigger::Trigger;
+use match_forest::CodeForest;
+use std::alloc::Global;
+use std::marker::Model;
 
 /// Terms in classes, closed under congruence, with the codes of the live triggers in trees.
 #[derive(Drop)]

@@ -3,9 +3,9 @@ ghost use Rattle.std.specs.Prelude.{◌≡◌, ◌<◌, ◌++◌, [], ◌∷◌,
 ghost use Rattle.match_machine.specs.Batch.{AreNumbered};
 
 use crate::item::Item;
+use graph_terms::Memory;
 use std::alloc::Global;
 use std::marker::Model;
-use graph_terms::Memory;
 
 /// A list of items whose numbers are 0, 1, 2 and so on.
 #[derive(Debug, Drop)]

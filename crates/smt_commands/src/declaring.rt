@@ -14,11 +14,11 @@ use crate::parts::{
     signature_at, sort_at,
 };
 use crate::reading::check_key;
+use graph_terms::Numbers;
 use smt_names::{Refusal, SessionState, Signature, Stop};
 use smt_terms::{behind_one, check_exactly, place_at, text_at};
 use smt_text::{Place, Tree};
 use std::alloc::Global;
-use graph_terms::Numbers;
 
 /// Whether a token is the name of the option that success is printed.
 fn is_success_key(tree: &Tree, i: u32) -> bool

@@ -8,13 +8,13 @@ ghost use Rattle.smt_commands.specs.Commands.{few_bindings, parameters_first, pa
 ghost use Rattle.smt_commands.specs.Parameters.{parameter_sorts, HasParameters};
 
 use crate::parts::check_list;
+use graph_terms::Numbers;
 use smt_names::{BoundNames, Refusal, SessionState, Stop};
 use smt_terms::{
     binding_at, check_few_bindings, check_names, other_sort_at, place_at, read_variables,
 };
 use smt_text::{Place, Tree};
 use std::alloc::Global;
-use graph_terms::Numbers;
 
 /// The parameters of a definition: as bound names, and their sorts.
 #[derive(Drop)]

@@ -11,6 +11,7 @@ ghost use Rattle.smt_names.specs.declared.head.Head.TheVariants.{Unknown};
 ghost use Rattle.smt_commands.specs.Answers.{HasList};
 ghost use Rattle.smt_commands.specs.Commands.{argument_sorts, arguments_first, keyword_first, new_function, new_sort, no_arguments, numeral_first, other_sorts, plain_value, signature_first, symbol_first};
 
+use graph_terms::Numbers;
 use smt_names::{Refusal, SessionState, Signature, Stop, is_keyword, is_numeral, is_symbol};
 use smt_terms::{
     Seen, behind_one, behind_some, check_no_more, is_wide, kind_at, look, number_of, other_sort_at,
@@ -18,7 +19,6 @@ use smt_terms::{
 };
 use smt_text::{Place, Tree};
 use std::alloc::Global;
-use graph_terms::Numbers;
 
 /// The place of the tree that comes next, and this one where none does.
 pub(crate) fn first_place_at(tree: &Tree, i: u32, none: Place) -> Place

@@ -37,7 +37,12 @@ use Refusal::{
 };
 
 fn came_of_formula(formula: &Formula) -> Came {
-    Asserts(formula.rows(), formula.nodes(), formula.foralls(), formula.root())
+    Asserts(
+        formula.rows(),
+        formula.nodes(),
+        formula.foralls(),
+        formula.root(),
+    )
 }
 
 fn came_of(answer: Result<Command, Stop>) -> Came {

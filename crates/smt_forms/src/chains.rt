@@ -7,11 +7,11 @@ use crate::equality::{put_distinct_of_two, put_equal_of_two, put_xor_of_two};
 use crate::forms::put_and;
 use crate::parts::complements_of;
 use crate::put::put_both;
-use formula_draft::{FormulaDraft, DraftNode};
+use formula_draft::{DraftNode, FormulaDraft};
+use graph_terms::Numbers;
 use smt_names::{Refusal, Stop, Value};
 use smt_text::Place;
 use std::alloc::Global;
-use graph_terms::Numbers;
 
 /// `xor` of a value and others, from the left.
 fn put_xor_from(

@@ -4,10 +4,10 @@ ghost use Rattle.smt_names.specs.Makes.{Checks};
 ghost use Rattle.smt_names.specs.Names.{Core};
 ghost use Rattle.smt_forms.specs.Applied.{arity_of, sort_at, wanted_by, right_sorts, right_branches, right_complements, needs, has_needed};
 
+use graph_terms::Memory;
 use smt_names::{Arg, Connective, Refusal, Stop, Value};
 use smt_text::Place;
 use std::alloc::Global;
-use graph_terms::Memory;
 
 /// Whether a connective takes so many parts.
 pub(crate) fn takes(connective: Connective, count: usize) -> bool

@@ -12,7 +12,12 @@ use smt_text::Place;
 use std::alloc::Global;
 
 /// `not`.
-fn put_not(alloc: Global, draft: &mut FormulaDraft, at: Place, parts: &[Value]) -> Result<Value, Stop>
+fn put_not(
+    alloc: Global,
+    draft: &mut FormulaDraft,
+    at: Place,
+    parts: &[Value],
+) -> Result<Value, Stop>
     ensures { Makes result draft.old draft.new (not_form at parts.now) }
 {
     let _rows = draft.rows();

@@ -5,11 +5,11 @@ ghost use Rattle.smt_forms.specs.Nodes.{or_of, and_of, crossed, xor_of_two, same
 
 use crate::crossed::Crossed;
 use crate::put::{put_both, put_node};
-use formula_draft::{FormulaDraft, DraftNode};
+use formula_draft::{DraftNode, FormulaDraft};
+use graph_terms::{Memory, Numbers};
 use smt_names::{Stop, Value};
 use smt_text::Place;
 use std::alloc::Global;
-use graph_terms::{Memory, Numbers};
 
 /// A disjunction of two nodes.
 pub(crate) fn put_or_of(

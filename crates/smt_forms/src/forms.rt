@@ -6,11 +6,11 @@ ghost use Rattle.smt_forms.specs.Nodes.{true_form, and_form, or_form, implies_fo
 
 use crate::parts::{complements_of, rows_of, selves_of};
 use crate::put::{put_both, put_row};
-use formula_draft::{FormulaDraft, DraftNode, DraftRow};
+use formula_draft::{DraftNode, DraftRow, FormulaDraft};
+use graph_terms::{Memory, Numbers};
 use smt_names::{Stop, Value};
 use smt_text::Place;
 use std::alloc::Global;
-use graph_terms::{Memory, Numbers};
 
 /// `true`.
 pub(crate) fn put_true(alloc: Global, draft: &mut FormulaDraft, at: Place) -> Result<Value, Stop>

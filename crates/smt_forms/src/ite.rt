@@ -5,7 +5,7 @@ ghost use Rattle.smt_forms.specs.Nodes.{ite_form, ite_of_three, ite_complement, 
 
 use crate::equality::{and_of, put_or_of};
 use crate::put::put_both;
-use formula_draft::{FormulaDraft, DraftNode};
+use formula_draft::{DraftNode, FormulaDraft};
 use smt_names::{Refusal, Stop, Value};
 use smt_text::Place;
 use std::alloc::Global;

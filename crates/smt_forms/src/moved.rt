@@ -8,11 +8,11 @@ ghost use Rattle.smt_forms.specs.Moved.{moved_numbers, moved_row, moved_rows, mo
 
 use crate::parts::rows_of;
 use crate::put::{put_node, put_row};
-use formula_draft::{FormulaDraft, DraftNode, DraftRow};
+use formula_draft::{DraftNode, DraftRow, FormulaDraft};
+use graph_terms::{Memory, Numbers};
 use smt_names::{Definition, Stop, Value};
 use smt_text::Place;
 use std::alloc::Global;
-use graph_terms::{Memory, Numbers};
 
 /// The number at a place, 0 past the end.
 fn number_at(numbers: &[u32], n: u32) -> u32

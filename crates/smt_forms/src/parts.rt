@@ -4,9 +4,9 @@ ghost use Rattle.smt_names.specs.Value.{row_of, other};
 ghost use Rattle.smt_forms.specs.Nodes.{selves, all_have_complements, complements};
 ghost use Rattle.smt_forms.specs.Applied.{values_of};
 
+use graph_terms::{Memory, Numbers};
 use smt_names::{Arg, Value};
 use std::alloc::Global;
-use graph_terms::{Memory, Numbers};
 
 /// What the arguments stand for.
 pub(crate) fn values_of(alloc: Global, args: &[Arg]) -> Result<Vec<Value>, Memory>

@@ -4,13 +4,18 @@ ghost use Rattle.smt_names.specs.Making.{row, node, node_if};
 ghost use Rattle.smt_names.specs.Makes.{Makes};
 ghost use Rattle.smt_forms.specs.Nodes.{both};
 
-use formula_draft::{FormulaDraft, DraftFault, DraftNode, DraftRow};
+use formula_draft::{DraftFault, DraftNode, DraftRow, FormulaDraft};
 use smt_names::{Refusal, Stop, Value};
 use smt_text::Place;
 use std::alloc::Global;
 
 /// The number of the row, which is put last where it is new.
-pub fn put_row(alloc: Global, draft: &mut FormulaDraft, at: Place, new: DraftRow) -> Result<u32, Stop>
+pub fn put_row(
+    alloc: Global,
+    draft: &mut FormulaDraft,
+    at: Place,
+    new: DraftRow,
+) -> Result<u32, Stop>
     ensures { Makes result draft.old draft.new (row at new) }
 {
     match draft.row(new) {

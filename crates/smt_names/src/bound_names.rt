@@ -4,9 +4,9 @@ ghost use Rattle.smt_names.specs.Names.{bound_as, bound_of};
 
 use crate::bound::Bound;
 use crate::stands::Stands;
+use graph_terms::{Memory, Name};
 use std::alloc::Global;
 use std::marker::Model;
-use graph_terms::{Memory, Name};
 
 /// The bound names, the outermost first. The last of a name wins.
 #[derive(Drop)]

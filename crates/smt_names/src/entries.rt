@@ -2,9 +2,9 @@
 ghost use Rattle.std.specs.Prelude.{◌≡◌, ◌<◌, ◌++◌, ◌∷◌, [], None, length, IfSome, OnOk, OnErr};
 ghost use Rattle.smt_names.specs.Entries.{place_of, IsSmall};
 
+use graph_terms::Memory;
 use indexmap::IndexMap;
 use std::alloc::Global;
-use graph_terms::Memory;
 
 /// The most entries: their numbers fit, and so do a few more.
 const MOST: usize = 0xffff_fff0;

@@ -13,11 +13,11 @@ use crate::refusal::Refusal;
 use crate::signature::Signature;
 use crate::stop::Stop;
 use em_outside::Limits;
+use graph_terms::Memory;
 use indexmap::IndexMap;
 use smt_text::{Kind, Place};
 use std::alloc::Global;
 use std::marker::Model;
-use graph_terms::Memory;
 
 /// What stands between two commands: the limits, whether success is printed, the sorts, functions and definitions by their names,
 /// and what stood when each open level was opened.

@@ -4,9 +4,9 @@ ghost use Rattle.smt_names.specs.Makes.{StopsWith};
 
 use crate::refusal::Refusal;
 use crate::syntax_fault::SyntaxFault;
+use graph_terms::{Memory, Name};
 use smt_text::Place;
 use std::alloc::{AllocError, AllocFailed, Global};
-use graph_terms::{Memory, Name};
 
 /// Why a step stopped.
 #[derive(Debug, Drop)]

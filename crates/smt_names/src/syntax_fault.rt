@@ -1,8 +1,8 @@
 //! A refusal with its place.
 
 use crate::refusal::Refusal;
-use smt_text::Place;
 use graph_terms::Name;
+use smt_text::Place;
 
 /// A refusal, where it comes, and the name that it speaks of. The name is empty where it speaks of none.
 #[derive(Debug, Drop)]

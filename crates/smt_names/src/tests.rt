@@ -2,10 +2,10 @@
 use crate::*;
 use em_outside::Limits;
 use formula_draft::FormulaDraft;
+use graph_terms::{Memory, Numbers};
 use smt_text::{Kind, Place};
 use std::alloc::Global;
 use std::test::Fail;
-use graph_terms::{Memory, Numbers};
 
 const HERE: Place = Place { line: 1, column: 9 };
 

@@ -3,10 +3,10 @@ ghost use Rattle.std.specs.Prelude.{◌≡◌, ◌<◌, ◌≤◌, ◌+◌, fals
 ghost use Rattle.smt_patterns.specs.Patterns.{numbered, renumbered, kept_if, kept_of, kept_so};
 
 use crate::marks::{is_marked, reach};
-use formula_draft::{FormulaDraft, DraftRow};
-use std::alloc::Global;
+use formula_draft::{DraftRow, FormulaDraft};
 use graph_terms::{Memory, Numbers};
 use graph_trigger::{PatternRow, PatternRows};
+use std::alloc::Global;
 
 /// The new numbers of some rows.
 pub(crate) fn numbers_at(alloc: Global, numbers: &[u32], places: &[u32]) -> Result<Numbers, Memory>

@@ -4,9 +4,9 @@ ghost use Rattle.formula_draft.specs.declared.draft_row.DraftRow.TheVariants.{Va
 ghost use Rattle.formula_draft.specs.DraftRow.{args_of};
 ghost use Rattle.smt_patterns.specs.Patterns.{marked, spread, reached_from};
 
-use formula_draft::{FormulaDraft, DraftRow};
-use std::alloc::Global;
+use formula_draft::{DraftRow, FormulaDraft};
 use graph_terms::Memory;
+use std::alloc::Global;
 
 /// Marks these places, where they stand.
 fn mark_all(marks: &mut Vec<bool>, places: &[u32])

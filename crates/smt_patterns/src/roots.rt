@@ -6,7 +6,7 @@ ghost use Rattle.smt_names.specs.Makes.{Makes};
 ghost use Rattle.smt_patterns.specs.Roots.{is_no_application, positive_row, root_of, small_enough, small_root};
 
 use crate::sizes::is_small;
-use formula_draft::{FormulaDraft, DraftNode, DraftRow};
+use formula_draft::{DraftNode, DraftRow, FormulaDraft};
 use smt_names::{Refusal, Stop, Value};
 use smt_text::Place;
 use std::alloc::Global;

@@ -3,9 +3,9 @@ ghost use Rattle.std.specs.Prelude.{◌≡◌, ◌<◌, ◌≤◌, ◌+◌, suc,
 ghost use Rattle.formula_draft.specs.DraftRow.{args_of};
 ghost use Rattle.smt_patterns.specs.Patterns.{sizes_after, size_of, capped};
 
-use formula_draft::{FormulaDraft, DraftRow};
-use std::alloc::Global;
+use formula_draft::{DraftRow, FormulaDraft};
 use graph_terms::Memory;
+use std::alloc::Global;
 
 /// A size up to 256, and 257 for each greater one.
 fn cap(size: u32) -> u32

@@ -6,11 +6,11 @@ ghost use Rattle.smt_patterns.specs.Triggers.{each_occurs, rooted_trigger};
 
 use crate::keeping::{Keeping, keep, numbers_at};
 use formula_draft::FormulaDraft;
+use graph_terms::Memory;
+use graph_trigger::{PatternRow, Trigger};
 use smt_names::{Bound, Refusal, Stop};
 use smt_text::Place;
 use std::alloc::Global;
-use graph_terms::Memory;
-use graph_trigger::{PatternRow, Trigger};
 
 /// The trigger of these roots, with so many variables.
 fn make_trigger(

@@ -11,10 +11,10 @@ ghost use Rattle.smt_terms.specs.Bodies.{attribute_at, attributes_at, IsAnnotate
 use crate::checks::check_attributes;
 use crate::cursor::{Seen, behind_one, behind_some, binding_at, kind_at, look, place_at, text_at};
 use crate::giving::bind_all;
+use graph_terms::{Memory, Name};
 use smt_names::{Bound, BoundNames, Refusal, SessionState, Stands, Stop, is_keyword, is_symbol};
 use smt_text::{Place, Tree};
 use std::alloc::Global;
-use graph_terms::{Memory, Name};
 
 /// Refuses a binding that comes next, at its name.
 fn check_no_binding(alloc: Global, tree: &Tree, i: u32, refusal: Refusal) -> Result<(), Stop>

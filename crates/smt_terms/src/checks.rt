@@ -10,10 +10,10 @@ ghost use Rattle.smt_terms.specs.Checks.{ChecksAs, HasBindings};
 
 use crate::cursor::{Seen, behind_one, behind_some, kind_at, look, place_at, text_at};
 use crate::numbers::is_wide;
+use graph_terms::Name;
 use smt_names::{Refusal, Stop, check_lawful_name, is_keyword};
 use smt_text::{Place, Tree};
 use std::alloc::Global;
-use graph_terms::Name;
 
 /// Refuses a tree that comes next.
 pub fn check_no_more(alloc: Global, tree: &Tree, i: u32, refusal: Refusal) -> Result<(), Stop>

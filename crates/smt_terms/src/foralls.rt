@@ -14,13 +14,13 @@ use crate::frame::Inside;
 use crate::giving::bind_all;
 use crate::triggers::put_triggers;
 use crate::values::{check_truth, value_inside};
-use formula_draft::{FormulaDraft, DraftNode};
-use smt_patterns::count_of;
+use formula_draft::{DraftNode, FormulaDraft};
+use graph_trigger::Triggers;
 use smt_forms::put_node;
 use smt_names::{Bound, BoundNames, Refusal, SessionState, Stop, Value};
+use smt_patterns::count_of;
 use smt_text::{Place, Tree};
 use std::alloc::Global;
-use graph_trigger::Triggers;
 
 /// Whether there is a trigger.
 fn has_trigger(triggers: &Triggers) -> bool

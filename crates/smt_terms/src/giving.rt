@@ -5,10 +5,10 @@ ghost use Rattle.smt_terms.specs.Machine.{weight, load, base_of, Continues, Give
 
 use crate::cursor::{binding_at, text_at};
 use crate::frame::{Frame, Given, Next, Round, Work};
+use graph_terms::{Memory, Name};
 use smt_names::{Arg, Bound, BoundNames, Stands};
 use smt_text::{Place, Tree};
 use std::alloc::Global;
-use graph_terms::{Memory, Name};
 
 /// Binds more names.
 pub(crate) fn bind_all(bound: &mut BoundNames, more: &[Bound]) -> Result<(), Memory>

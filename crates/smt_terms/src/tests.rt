@@ -1,13 +1,13 @@
 //! Foralls with triggers, and how each trigger is refused.
 use crate::{Inside, elaborate_term};
 use em_outside::{Limits, SureSource};
-use formula_draft::{FormulaDraft, DraftForall};
+use formula_draft::{DraftForall, FormulaDraft};
+use graph_terms::Numbers;
+use graph_trigger::{PatternRow, Trigger};
 use smt_names::{BoundNames, Refusal, SessionState, Signature, Stop};
 use smt_text::{Kind, Place, Tree, TreeReader};
 use std::alloc::Global;
 use std::test::Fail;
-use graph_terms::Numbers;
-use graph_trigger::{PatternRow, Trigger};
 
 const HERE: Place = Place { line: 1, column: 1 };
 

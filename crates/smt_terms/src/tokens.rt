@@ -10,7 +10,7 @@ ghost use Rattle.smt_terms.specs.Machine.{scope_of};
 
 use crate::cursor::{kind_at, place_at, text_at};
 use crate::frame::Inside;
-use formula_draft::{FormulaDraft, DraftRow};
+use formula_draft::{DraftRow, FormulaDraft};
 use smt_forms::{apply, put_row};
 use smt_names::{BoundNames, Head, Refusal, SessionState, Stands, Stop, Value, is_reserved};
 use smt_text::{Kind, Place, Tree};

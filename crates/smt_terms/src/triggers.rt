@@ -13,11 +13,11 @@ use crate::cursor::{Seen, behind_some, kind_at, look, place_at};
 use crate::frame::Inside;
 use crate::values::value_inside;
 use formula_draft::FormulaDraft;
-use smt_patterns::{root_of_pattern, trigger_of_roots};
+use graph_trigger::{Trigger, Triggers};
 use smt_names::{Bound, BoundNames, Refusal, SessionState, Stop, is_keyword};
+use smt_patterns::{root_of_pattern, trigger_of_roots};
 use smt_text::{Place, Tree};
 use std::alloc::Global;
-use graph_trigger::{Trigger, Triggers};
 
 /// The place behind the tree that comes next, where one does.
 fn behind_next(tree: &Tree, i: u32) -> Option<u32>

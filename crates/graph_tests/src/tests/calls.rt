@@ -3,9 +3,9 @@ ghost use Rattle.std.specs.Prelude.{◌<◌, ◌↔◌, All, IsTrue};
 
 use super::deed::{Deed, trigger};
 use graph_congruence::{Graph, Unions};
-use std::alloc::Global;
 use graph_meaning::ClassGraph;
 use graph_terms::{Memory, TableFault};
+use std::alloc::Global;
 
 /// Whether these are the unions, where it does not matter which end of one stands first.
 fn are_unions(found: &Unions, wanted: &[(u32, u32)]) -> bool {

@@ -1,8 +1,8 @@
 //! Operations as the tables of the tests write them.
-use std::alloc::Global;
 use graph_meaning::Op;
 use graph_terms::{Memory, Numbers};
 use graph_trigger::{PatternRow, PatternRows, Trigger};
+use std::alloc::Global;
 
 /// An operation. The symbols 2 and 3 are constants, 4 is `f` and 5 is `g`.
 #[derive(Clone, Copy, Debug)]

@@ -1,9 +1,9 @@
 //! Operations that are drawn by numbers.
 use super::deed::{Deed, op_of};
 use super::pair::Pair;
-use std::alloc::Global;
 use graph_meaning::ClassGraph;
 use graph_terms::TableFault;
+use std::alloc::Global;
 
 /// The operation of a kind over two terms.
 fn drawn(kind: u32, ends: &[u32; 2]) -> Deed {

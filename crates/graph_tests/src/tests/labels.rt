@@ -1,9 +1,9 @@
 //! The plain graph against classes that are computed otherwise, on lists of operations drawn by a fixed generator.
+use graph_meaning::{ClassGraph, Op};
 use graph_plain::PlainGraph;
+use graph_terms::{Memory, Numbers};
 use std::alloc::{AllocError, Global};
 use std::test::Fail;
-use graph_meaning::{ClassGraph, Op};
-use graph_terms::{Memory, Numbers};
 
 /// Terms of a symbol and at most one argument, equations between them, and how many of both stood at each push.
 #[derive(Drop)]

@@ -3,10 +3,10 @@ ghost use Rattle.std.specs.Prelude.{◌≤◌};
 
 use super::agreement::agree;
 use graph_congruence::Graph;
-use graph_plain::PlainGraph;
-use std::alloc::Global;
 use graph_meaning::{ClassGraph, Front, Op};
+use graph_plain::PlainGraph;
 use graph_terms::{Memory, TableFault};
+use std::alloc::Global;
 
 /// Two graphs that were driven alike, and fronts that they had.
 #[derive(Drop)]

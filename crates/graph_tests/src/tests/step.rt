@@ -3,8 +3,8 @@ use super::calls::{adds, call, finds};
 use super::deed::{Deed, op_of};
 use super::fact::{Fact, holds};
 use super::pair::Pair;
-use std::alloc::Global;
 use graph_terms::TableFault;
+use std::alloc::Global;
 
 /// What is done with two graphs, and what has to come of it.
 #[derive(Clone, Copy, Debug)]
