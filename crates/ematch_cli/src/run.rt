@@ -1,5 +1,5 @@
 //! The top call.
-ghost use Rattle.std.specs.Prelude.{◌≡◌, ◌↔◌, ◌⊎◌, IsTrue, IfOk};
+ghost use Rattle.std.specs.Prelude.{◌≡◌, ◌≢◌, ◌↔◌, ◌⊎◌, IsTrue, IfOk};
 ghost use Rattle.em_outside.specs.Causes.{Rose};
 ghost use Rattle.em_outside.specs.Limits.{AreLawful};
 ghost use Rattle.ematch_cli.specs.Headline.{Answers, Reports};
@@ -39,6 +39,8 @@ fn run_words<I: Source, O: Sink>(
         → Answers limits.now (I.left input.old) (I.left input.new) (O.written out.old) (O.written out.new) result }
     ensures read_fault { result ≡ Status.ReadFault → Rose (I.fault_count input.old) (I.fault_count input.new) }
     ensures write_fault { result ≡ Status.WriteFault → Rose (O.fault_count out.old) (O.fault_count out.new) }
+    ensures quiet_in { result ≢ Status.ReadFault → I.fault_count input.new ≡ I.fault_count input.old }
+    ensures quiet_out { result ≢ Status.WriteFault → O.fault_count out.new ≡ O.fault_count out.old }
 {
     match are_words(alloc, words) {
         Ok(true) => answer_script(alloc, limits, input, out),
@@ -72,6 +74,8 @@ pub fn run_alone<I: Source, O: Sink, E: Sink>(
     // A fault is answered only where the count of what failed rose.
     ensures read_fault { result ≡ Status.ReadFault → Rose (I.fault_count input.old) (I.fault_count input.new) }
     ensures write_fault { result ≡ Status.WriteFault → Rose (O.fault_count out.old) (O.fault_count out.new) }
+    ensures quiet_in { result ≢ Status.ReadFault → I.fault_count input.new ≡ I.fault_count input.old }
+    ensures quiet_out { result ≢ Status.WriteFault → O.fault_count out.new ≡ O.fault_count out.old }
 
     // The status is told on `err`, and a fault of `err` changes nothing else.
     ensures reports { Reports (E.written err.old) (E.written err.new) (E.fault_count err.old) (E.fault_count err.new) result }

@@ -20,7 +20,7 @@ no_entry k u e = let h : None ≡ Some u = e in cc
 
 -- with no union, the classes are the old ones
 pub no_unions : (n : ℕ) (labels : List ℕ) → AreUnions (HaveOneLabel n labels) (HaveOneLabel n labels) []
-no_unions n labels = record { generated = λ s t h. was h; held = held; led = λ k u e. absurd (no_entry k u e) }
+no_unions n labels = record { generated = λ s t h. was h; held = held; led = λ k u e. absurd (no_entry k u e); apart = λ k u e g. absurd (no_entry k u e) }
   where
     held : (s t : ℕ) → Generated (HaveOneLabel n labels) [] s t → HaveOneLabel n labels s t
     held s t (was h) = h
@@ -110,5 +110,19 @@ module _ (n : ℕ) (first old new : List ℕ) (unions : List Union) (a b from in
         subst P (sym (ap (λ j. take j (unions ++ union_of a b ∷ [])) end.0 ∙ take_last)) (subst Q (sym end.1) led_last)
   ]
 
+  apart_last : Generated (HaveOneLabel n first) unions a b → ⊥
+  apart_last g = let h = are.held a b g in elim ends [
+    | inl here ↦ apart (sym here.0 ∙ h.2 ∙ here.1)
+    | inr there ↦ apart (sym there.1 ∙ sym h.2 ∙ there.0)
+  ]
+
+  all_apart : (k : ℕ) (u : Union) → slice_get (unions ++ union_of a b ∷ []) k ≡ Some u → Generated (HaveOneLabel n first) (take k (unions ++ union_of a b ∷ [])) u.left u.right → ⊥
+  all_apart k u is = elim (slice_get_push_cases unions (union_of a b) k u is) [
+    | inl earlier ↦ let P : List Union → Type 0 = λ us. Generated (HaveOneLabel n first) us u.left u.right → ⊥ in subst P (sym (take_earlier k (slice_get_within unions k u earlier))) (are.apart k u earlier)
+    | inr end ↦ let P : List Union → Type 0 = λ us. Generated (HaveOneLabel n first) us u.left u.right → ⊥ in
+        let Q : Union → Type 0 = λ v. Generated (HaveOneLabel n first) unions v.left v.right → ⊥ in
+        subst P (sym (ap (λ j. take j (unions ++ union_of a b ∷ [])) end.0 ∙ take_last)) (subst Q (sym end.1) apart_last)
+  ]
+
   pub one_more_union : AreUnions (HaveOneLabel n first) (HaveOneLabel n new) (unions ++ union_of a b ∷ [])
-  one_more_union = record { generated = generated; held = held; led = led }
+  one_more_union = record { generated = generated; held = held; led = led; apart = all_apart }

@@ -27,3 +27,4 @@ pub record AreUnions (old new : ℕ → ℕ → Type 0) (unions : List Union) : 
   pub generated : (s t : ℕ) → new s t → Generated old unions s t
   pub held : (s t : ℕ) → Generated old unions s t → new s t
   pub led : (k : ℕ) (union : Union) → slice_get unions k ≡ Some union → Leads (Generated old (take k unions)) union
+  pub apart : (k : ℕ) (union : Union) → slice_get unions k ≡ Some union → Generated old (take k unions) union.left union.right → ⊥

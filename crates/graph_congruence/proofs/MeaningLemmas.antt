@@ -58,6 +58,7 @@ AreUnions-map old old' new new' us f g h k are = record {
     left = λ other n. leads.left other (Generated-map old' old (take i us) g u.left other n);
     right = λ other n. leads.right other (Generated-map old' old (take i us) g u.right other n);
   };
+  apart = λ i u is n. are.apart i u is (Generated-map old' old (take i us) g u.left u.right n);
 }
 
 -- the unions of an operation that adds no row

@@ -1,4 +1,4 @@
-use Rattle.std.proofs.Common.{◌≡◌, ◌≢◌, true, false, List, ℕ, arith, sym, ◌∙◌, ap, subst}
+use Rattle.std.proofs.Common.{◌≡◌, ◌≢◌, true, false, List, ℕ, arith, sym, ◌∙◌, ap, subst, refl}
 use Rattle.em_outside.specs.Bytes.{Appended}
 use Rattle.smt_text.specs.Reading.{Reading}
 use Rattle.smt_names.specs.Names.{State, at_start}
@@ -28,6 +28,8 @@ loop-tree-init g c =
       limits = ap (λ (r : Reading). r.limits) c.requires.reader;
       input_later = omega (arith);
       out_later = omega (arith);
+      input_quiet = refl;
+      out_quiet = refl;
     }
 
 pub returns-then-not-write_text-clause-answers : goal.returns-then-not-write_text-clause-answers
@@ -80,6 +82,8 @@ loop-tree-preserved g c =
       limits = ap (λ r. r.limits) given.moved ∙ c.loop-tree.invariant.limits;
       input_later = omega (arith, c.next_tree.ensures.later, c.loop-tree.invariant.input_later);
       out_later = omega (arith, c.write_text.ensures.later, c.loop-tree.invariant.out_later);
+      input_quiet = read.calm c.loop-tree.invariant.no_fault ∙ c.loop-tree.invariant.input_quiet;
+      out_quiet = c.if-not-write_text.ensures.quiet ∙ c.loop-tree.invariant.out_quiet;
     }
 
 pub returns-in-Ok-None-clause-answers : goal.returns-in-Ok-None-clause-answers

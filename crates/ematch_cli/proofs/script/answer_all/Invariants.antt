@@ -10,6 +10,8 @@ invariant-loop-tree g l = record {
   limits : l.reader.limits ≡ l.limits;
   input_later : g.I.Source.fault_count l.fn.input ≤ g.I.Source.fault_count l.input;
   out_later : g.O.Sink.fault_count l.fn.out ≤ g.O.Sink.fault_count l.out;
+  input_quiet : g.I.Source.fault_count l.input ≡ g.I.Source.fault_count l.fn.input;
+  out_quiet : g.O.Sink.fault_count l.out ≡ g.O.Sink.fault_count l.fn.out;
 }
 
 abbrev pub decreases-loop-tree : goal.decreases-loop-tree
