@@ -3,19 +3,25 @@ ghost use Rattle.std.specs.Prelude.{◌≡◌};
 ghost use Rattle.smt_text.specs.ByteFault.{place_of, text_fault};
 
 use crate::{Place, TextFault};
+use thiserror::Error;
 
 /// Why bytes are no script, and at which byte. The lowest byte decides which fault is first.
-#[derive(Clone, Copy, Debug, PartialEq, Eq)]
+#[derive(Clone, Copy, Debug, PartialEq, Eq, Error)]
 pub enum ByteFault {
     /// The byte may not stand here inside a command.
+    #[error("{place}: byte not allowed here")]
     BadByte { place: Place },
     /// The bytes end inside the command that opens here.
+    #[error("{place}: the command is not closed")]
     Unclosed { place: Place },
     /// The byte may not stand here between two commands.
+    #[error("{place}: a command must begin with (")]
     Stray { place: Place },
     /// More parentheses would be open than the limit allows.
+    #[error("{place}: too many open parentheses")]
     TooDeep { place: Place },
     /// This is the first byte past the limit. On one byte it goes before the other faults.
+    #[error("{place}: the script is too long")]
     TooLong { place: Place },
 }
 
