@@ -87,7 +87,41 @@ def fronts(n, triggers=32):
     return lines
 
 
-KINDS = [("collapse", collapse), ("levels", levels), ("heap", heap), ("fronts", fronts)]
+def wide_let(n):
+    """One let of n bindings, each of which is used."""
+    lines = head([("f", 1)], ["c"])
+    bindings = " ".join(f"(x{k} (f c))" for k in range(n))
+    parts = " ".join(f"(= x{k} c)" for k in range(n))
+    lines += [f"(assert (let ({bindings}) (and {parts})))", "(check-sat)"]
+    return lines
+
+
+def nested_lets(n):
+    """n lets, each inside the one before, of one binding each."""
+    lines = head([("f", 1)], ["c"])
+    opened = "(let ((x0 (f c))) " + "".join(f"(let ((x{k} (f x{k - 1}))) " for k in range(1, n))
+    lines += [f"(assert {opened}(= x0 x{n - 1}){')' * n})", "(check-sat)"]
+    return lines
+
+
+def many_triggers(n):
+    """One forall with n triggers of one pattern each."""
+    lines = head([(f"f{k}", 1) for k in range(n)], ["c"])
+    patterns = " ".join(f":pattern ((f{k} x))" for k in range(n))
+    lines.append(f"(assert (forall ((x U)) (! (= x x) {patterns})))")
+    lines += [equal("(f0 c)", "c"), "(check-sat)"]
+    return lines
+
+
+KINDS = [
+    ("collapse", collapse),
+    ("levels", levels),
+    ("heap", heap),
+    ("fronts", fronts),
+    ("wide let", wide_let),
+    ("nested lets", nested_lets),
+    ("many triggers", many_triggers),
+]
 
 
 def run(command, script, seconds):
@@ -122,7 +156,7 @@ def measure(program, z3, kind, make, n, seconds):
     for size in (n, 2 * n, 4 * n):
         script = ("\n".join(make(size)) + "\n").encode()
         took, memory, matches, status = run([program, "matches"], script, seconds)
-        cells = [f"{kind:<9}", f"{size:>8}", f"{took:>9.3f} s"]
+        cells = [f"{kind:<13}", f"{size:>8}", f"{took:>9.3f} s"]
         cells.append("" if memory is None else f"{memory:>8.1f} MiB")
         cells.append("" if matches is None else f"{matches:>9} matches")
         cells.append("" if before is None else f"x {took / before:.2f}")
