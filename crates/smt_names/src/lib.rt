@@ -36,6 +36,3 @@ pub use stands::Stands;
 pub use stop::Stop;
 pub use syntax_fault::SyntaxFault;
 pub use value::Value;
-
-#[cfg(test)]
-mod tests;

@@ -1,8 +1,8 @@
 use Rattle.std.proofs.Common.{true, length}
 use Rattle.formula_draft.specs.declared.draft_row.DraftRow.TheVariants.{App}
 use Rattle.formula_draft.specs.declared.draft_node.DraftNode.TheVariants.{Atom}
-use Rattle.formula_table.proofs.TestLemmas.{constant_fits, atom_fits, node_within, constant_closed}
-use Rattle.formula_table.proofs.tests.atom.Goals as goal
+use Rattle.formula_tests.proofs.TestLemmas.{constant_fits, atom_fits, node_within, constant_closed}
+use Rattle.formula_tests.proofs.tests.entry.atom.Goals as goal
 
 pub row-requires : goal.row-requires
 row-requires c = constant_fits (length c.in_ok-maker.maker.rows) 7 c.in_ok-args.args c.in_ok-args.ensures

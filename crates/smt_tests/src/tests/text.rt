@@ -2,8 +2,8 @@
 ghost use Rattle.std.specs.Prelude.{◌≤◌};
 ghost use Rattle.em_outside.specs.Limits.{AreLawful};
 
-use super::*;
 use em_outside::{Limits, MemSource, Source, SureSource};
+use smt_text::*;
 use std::alloc::Global;
 use std::process::Abort;
 use std::test::Fail;

@@ -1,7 +1,7 @@
 //! A session in which each command is answered, and refusals with their places and names.
-use crate::{Command, Info, Session};
 use em_outside::{Limits, SureSource};
 use formula_draft::Formula;
+use smt_commands::{Command, Info, Session};
 use smt_names::{Refusal, Stop};
 use smt_text::TreeReader;
 use std::alloc::Global;

@@ -1,8 +1,8 @@
 //! Each public call once.
-use crate::*;
 use em_outside::Limits;
 use formula_draft::FormulaDraft;
 use graph_terms::{Memory, Numbers};
+use smt_names::*;
 use smt_text::{Kind, Place};
 use std::alloc::Global;
 use std::test::Fail;

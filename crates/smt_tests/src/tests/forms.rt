@@ -1,8 +1,8 @@
 //! Each connective, a declared function and a definition once.
-use crate::*;
 use em_outside::Limits;
 use formula_draft::{DraftNode, DraftRow, FormulaDraft};
 use graph_terms::Numbers;
+use smt_forms::*;
 use smt_names::{Arg, Connective, Definition, Head, Refusal, SessionState, Signature, Stop, Value};
 use smt_text::{Kind, Place};
 use std::alloc::Global;

@@ -1,10 +1,10 @@
 //! Foralls with triggers, and how each trigger is refused.
-use crate::{Inside, elaborate_term};
 use em_outside::{Limits, SureSource};
 use formula_draft::{DraftForall, FormulaDraft};
 use graph_terms::Numbers;
 use graph_trigger::{PatternRow, Trigger};
 use smt_names::{BoundNames, Refusal, SessionState, Signature, Stop};
+use smt_terms::{Inside, elaborate_term};
 use smt_text::{Kind, Place, Tree, TreeReader};
 use std::alloc::Global;
 use std::test::Fail;
