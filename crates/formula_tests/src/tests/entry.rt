@@ -1,6 +1,6 @@
 //! Formulas that are entered.
 use formula_draft::{DraftFault, DraftNode, DraftRow, Formula, FormulaDraft, FormulaMaker};
-use formula_table::*;
+use formula_table::{FormulaTable, Node};
 use graph_terms::{Memory, Numbers, TermTable};
 use graph_trigger::Triggers;
 use std::alloc::Global;

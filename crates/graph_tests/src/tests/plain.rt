@@ -1,6 +1,6 @@
 //! The plain graph.
 use graph_meaning::{ClassGraph, Op};
-use graph_plain::*;
+use graph_plain::{PlainGraph, list_matches};
 use graph_terms::{Memory, Numbers, TableFault};
 use graph_trigger::{PatternRow, PatternRows, Trigger};
 use std::alloc::Global;

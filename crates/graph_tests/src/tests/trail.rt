@@ -1,5 +1,5 @@
 //! Changes that are taken back.
-use graph_trail::*;
+use graph_trail::{Trail, Undoable};
 use std::test::Fail;
 
 /// A number that is written over.

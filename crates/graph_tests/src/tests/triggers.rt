@@ -1,6 +1,6 @@
 //! Triggers, and which are valid.
-
 use graph_terms::{Memory, Numbers};
+use graph_trigger::{PatternRow, PatternRows, Trigger, Triggers};
 use std::alloc::Global;
 use std::test::Fail;
 

@@ -2,7 +2,7 @@
 use em_outside::Limits;
 use formula_draft::{DraftNode, DraftRow, FormulaDraft};
 use graph_terms::Numbers;
-use smt_forms::*;
+use smt_forms::{apply, put_node, put_row};
 use smt_names::{Arg, Connective, Definition, Head, Refusal, SessionState, Signature, Stop, Value};
 use smt_text::{Kind, Place};
 use std::alloc::Global;

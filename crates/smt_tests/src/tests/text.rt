@@ -3,7 +3,7 @@ ghost use Rattle.std.specs.Prelude.{◌≤◌};
 ghost use Rattle.em_outside.specs.Limits.{AreLawful};
 
 use em_outside::{Limits, MemSource, Source, SureSource};
-use smt_text::*;
+use smt_text::{ByteFault, Kind, Place, TextFault, Tree, TreeReader, is_simple};
 use std::alloc::Global;
 use std::process::Abort;
 use std::test::Fail;
