@@ -2,8 +2,10 @@
 #![tactic(auto)]
 
 pub mod code;
+pub mod instr;
 pub mod laws;
 mod layout;
 
-pub use code::{Code, Instr};
+pub use code::Code;
+pub use instr::Instr;
 pub use layout::compile;

@@ -6,7 +6,6 @@ mod entry_table;
 pub mod forest;
 mod index;
 mod insertion;
-mod instrs;
 pub mod laws;
 mod mark;
 mod node_table;
