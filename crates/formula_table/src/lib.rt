@@ -18,7 +18,7 @@ pub use table_forall::TableForall;
 #[cfg(test)]
 mod tests {
     use super::*;
-    use formula_draft::{DraftFault, DraftNode, DraftRow, Formula, FormulaDraft, FormulaMaker};
+    use formula_draft::{DraftFault, DraftNode, DraftRow, Formula, FormulaDraft};
     use graph_terms::{Memory, Numbers, TermTable};
     use graph_trigger::Triggers;
     use std::alloc::Global;
@@ -26,14 +26,14 @@ mod tests {
 
     /// The atom of a constant.
     fn atom(alloc: Global) -> Result<Formula, DraftFault> {
-        let mut maker = FormulaMaker::new(alloc, 4, 4)?;
+        let mut draft = FormulaDraft::new(alloc, 4, 4);
         let args = Numbers::from_slice(alloc, &[])?;
-        let row = maker.row(DraftRow::App { symbol: 7, args })?;
-        let root = maker.node(DraftNode::Atom {
+        let row = draft.row(DraftRow::App { symbol: 7, args })?;
+        let root = draft.node(DraftNode::Atom {
             positive: true,
             row,
         })?;
-        Ok(maker.finish(root))
+        Ok(draft.finish(root))
     }
 
     #[test]
