@@ -1,5 +1,5 @@
 //! Formulas that are entered.
-use formula_draft::{DraftFault, DraftNode, DraftRow, Formula, FormulaDraft, FormulaMaker};
+use formula_draft::{DraftFault, DraftNode, DraftRow, Formula, FormulaDraft};
 use formula_table::{FormulaTable, Node};
 use graph_terms::{Memory, Numbers, TermTable};
 use graph_trigger::Triggers;
@@ -8,14 +8,14 @@ use std::test::Fail;
 
 /// The atom of a constant.
 fn atom(alloc: Global) -> Result<Formula, DraftFault> {
-    let mut maker = FormulaMaker::new(alloc, 4, 4)?;
+    let mut draft = FormulaDraft::new(alloc, 4, 4);
     let args = Numbers::from_slice(alloc, &[])?;
-    let row = maker.row(DraftRow::App { symbol: 7, args })?;
-    let root = maker.node(DraftNode::Atom {
+    let row = draft.row(DraftRow::App { symbol: 7, args })?;
+    let root = draft.node(DraftNode::Atom {
         positive: true,
         row,
     })?;
-    Ok(maker.finish(root))
+    Ok(draft.finish(root))
 }
 
 #[test]
