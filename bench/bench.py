@@ -6,8 +6,9 @@
 PROGRAM is the built program `ematch`. Each kind of script is made for n, 2n and 4n, and given to `PROGRAM matches` on
 standard input. A line for each run gives the seconds that it took by the clock, the most memory that it held, how many
 matches it listed in all, and how many times longer it took than the run before: about 2 where the time grows with n,
-about 4 where it grows with the square of n. Where a `z3` is installed, it is given the same script, and its seconds
-stand last; it instantiates the foralls and lists nothing. The script measures and judges nothing.
+about 4 where it grows with the square of n. Where `z3` or `cvc5` are installed (`apt-get install z3 cvc5`), they are given
+the same script, and their seconds stand last; they instantiate the foralls and list nothing. The script measures and
+judges nothing.
 """
 
 import argparse
@@ -21,7 +22,7 @@ import time
 
 def head(functions, constants):
     """Declares the sort, the functions with their numbers of arguments, and the constants."""
-    lines = ["(declare-sort U 0)"]
+    lines = ["(set-logic UF)", "(declare-sort U 0)"]
     for name, arity in functions:
         lines.append(f"(declare-fun {name} ({' '.join(['U'] * arity)}) U)")
     for name in constants:
@@ -55,7 +56,7 @@ def levels(n):
     lines.append(forall(["x"], "(f (f x))"))
     lines += [equal(f"(f c{i})", f"c{i + 1}") for i in range(64)]
     for _ in range(n):
-        lines += ["(push)", equal("c0", "c1"), "(check-sat)", "(pop)"]
+        lines += ["(push 1)", equal("c0", "c1"), "(check-sat)", "(pop 1)"]
     return lines
 
 
@@ -87,7 +88,41 @@ def fronts(n, triggers=32):
     return lines
 
 
-KINDS = [("collapse", collapse), ("levels", levels), ("heap", heap), ("fronts", fronts)]
+def wide_let(n):
+    """One let of n bindings, each of which is used."""
+    lines = head([("f", 1)], ["c"])
+    bindings = " ".join(f"(x{k} (f c))" for k in range(n))
+    parts = " ".join(f"(= x{k} c)" for k in range(n))
+    lines += [f"(assert (let ({bindings}) (and {parts})))", "(check-sat)"]
+    return lines
+
+
+def nested_lets(n):
+    """n lets, each inside the one before, of one binding each."""
+    lines = head([("f", 1)], ["c"])
+    opened = "(let ((x0 (f c))) " + "".join(f"(let ((x{k} (f x{k - 1}))) " for k in range(1, n))
+    lines += [f"(assert {opened}(= x0 x{n - 1}){')' * n})", "(check-sat)"]
+    return lines
+
+
+def many_triggers(n):
+    """One forall with n triggers of one pattern each."""
+    lines = head([(f"f{k}", 1) for k in range(n)], ["c"])
+    patterns = " ".join(f":pattern ((f{k} x))" for k in range(n))
+    lines.append(f"(assert (forall ((x U)) (! (= x x) {patterns})))")
+    lines += [equal("(f0 c)", "c"), "(check-sat)"]
+    return lines
+
+
+KINDS = [
+    ("collapse", collapse),
+    ("levels", levels),
+    ("heap", heap),
+    ("fronts", fronts),
+    ("wide let", wide_let),
+    ("nested lets", nested_lets),
+    ("many triggers", many_triggers),
+]
 
 
 def run(command, script, seconds):
@@ -117,20 +152,31 @@ def run(command, script, seconds):
         return took, usage.ru_maxrss / 1024, matches, child.returncode
 
 
-def measure(program, z3, kind, make, n, seconds):
+PEERS = [
+    ("z3", ["-in", "smt.auto_config=false", "smt.mbqi=false"]),
+    ("cvc5", ["--lang=smt2", "--incremental", "--user-pat=strict", "-"]),
+]
+
+
+def peers():
+    """The commands of the peers that are installed, under their names."""
+    return [(name, [path] + words) for name, words in PEERS if (path := shutil.which(name)) is not None]
+
+
+def measure(program, others, kind, make, n, seconds):
     before = None
     for size in (n, 2 * n, 4 * n):
         script = ("\n".join(make(size)) + "\n").encode()
         took, memory, matches, status = run([program, "matches"], script, seconds)
-        cells = [f"{kind:<9}", f"{size:>8}", f"{took:>9.3f} s"]
+        cells = [f"{kind:<13}", f"{size:>8}", f"{took:>9.3f} s"]
         cells.append("" if memory is None else f"{memory:>8.1f} MiB")
         cells.append("" if matches is None else f"{matches:>9} matches")
         cells.append("" if before is None else f"x {took / before:.2f}")
         if status != 0:
             cells.append(f"status {status}")
-        if z3 is not None:
-            other = run([z3, "-in"], script, seconds)
-            cells.append(f"z3 {other[0]:.3f} s" if other[3] == 0 else f"z3 {other[3]}")
+        for name, command in others:
+            other = run(command, script, seconds)
+            cells.append(f"{name} {other[0]:.3f} s" if other[3] == 0 else f"{name} {other[3]}")
         print("  ".join(cell for cell in cells if cell), flush=True)
         if status == "cut off":
             return
@@ -147,10 +193,10 @@ def main():
     program = os.path.abspath(words.program)
     if not os.access(program, os.X_OK):
         sys.exit(f"{program} is no program")
-    z3 = shutil.which("z3")
+    others = peers()
     for kind, make in KINDS:
         if words.only in (None, kind):
-            measure(program, z3, kind, make, words.n, words.seconds)
+            measure(program, others, kind, make, words.n, words.seconds)
 
 
 if __name__ == "__main__":

@@ -7,7 +7,6 @@ pub mod draft_node;
 pub mod draft_row;
 pub mod formula;
 pub mod formula_draft;
-pub mod formula_maker;
 pub mod items;
 
 pub use draft_fault::DraftFault;
@@ -16,4 +15,3 @@ pub use draft_node::DraftNode;
 pub use draft_row::DraftRow;
 pub use formula::Formula;
 pub use formula_draft::FormulaDraft;
-pub use formula_maker::FormulaMaker;

@@ -5,4 +5,3 @@ pub mod InOrderLemmas
 pub mod EntryLemmas
 pub mod ForallLemmas
 pub mod NodeLemmas
-pub mod TestLemmas

@@ -5,8 +5,13 @@ mod deed;
 mod draw;
 mod fact;
 mod labels;
+mod operations;
 mod pair;
+mod plain;
 mod step;
+mod tables;
+mod trail;
+mod triggers;
 
 use deed::Deed::{Add, Differ, Live, Merge, Pop, Push};
 use draw::draw_list;

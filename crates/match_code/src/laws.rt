@@ -2,7 +2,7 @@
 ghost use Rattle.std.specs.Prelude.{ℕ, List};
 ghost use Rattle.graph_meaning.specs.declared.done.Done.{Done};
 ghost use Rattle.graph_meaning.specs.Lawful.{IsLawful};
-ghost use Rattle.match_code.specs.declared.code.Instr.{Instr};
+ghost use Rattle.match_code.specs.declared.instr.Instr.{Instr};
 ghost use Rattle.match_code.specs.Steps.{AreSameContents, Yields};
 
 /// Registers of the same classes yield the same tuples.

@@ -1,6 +1,6 @@
 -- What a `NodeTable` keeps, and what its calls do.
 use Rattle.std.specs.Prelude.{◌≡◌, ℕ, zero, suc, ◌<◌, ◌≤◌, ◌^◌, List, map, length, slice_get, Some, None, Option}
-use Rattle.match_code.specs.declared.code.Instr.{Instr}
+use Rattle.match_code.specs.declared.instr.Instr.{Instr}
 use Rattle.match_forest.specs.Trees.{Trees, AreTrees, Path, Way, trees_front}
 use Rattle.match_forest.specs.declared.node_table.NodeTable.TheInside.{Inside}
 

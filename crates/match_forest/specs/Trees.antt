@@ -1,6 +1,6 @@
 -- Instructions in trees.
 use Rattle.std.specs.Prelude.{◌≡◌, ℕ, ◌<◌, ◌≤◌, List, [], ◌∷◌, ◌++◌, length, take, slice_get, Some, None, Option}
-use Rattle.match_code.specs.declared.code.Instr.{Instr}
+use Rattle.match_code.specs.declared.instr.Instr.{Instr}
 
 -- the node above each node, which a root has not, and the instruction of each node
 pub record Trees : Type 0 where

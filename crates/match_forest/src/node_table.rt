@@ -2,11 +2,10 @@
 ghost use Rattle.std.specs.Prelude.{◌≡◌, ℕ, ◌+◌, ◌-◌, ◌^◌, ◌<◌, ◌≤◌, List, length, slice_get, Some, IfOk, IfSome, IfNone, OnOk, OnErr};
 ghost use Rattle.graph_meaning.specs.Questions.{AreAll, IsNth};
 ghost use Rattle.match_forest.specs.Trees.{AreTrees, IsRoot, Path, trees_front, with_node};
-ghost use Rattle.match_code.specs.declared.code.Instr.{Instr};
+ghost use Rattle.match_code.specs.declared.instr.Instr.{Instr};
 ghost use Rattle.match_forest.specs.NodesInside.{above_of, Extends, Leads, Puts};
 
 use crate::index::Index;
-use crate::instrs::{copy_instr, same_instr};
 use graph_terms::Memory;
 use match_code::{Code, Instr};
 use std::alloc::Global;
@@ -156,7 +155,7 @@ impl NodeTable {
         let _len = self.len();
         let nexts = self.nexts(at);
         for node in nexts {
-            if same_instr(self.instr(*node), instr) {
+            if self.instr(*node).is_same(instr) {
                 return Some(*node);
             }
         }
@@ -195,7 +194,7 @@ impl NodeTable {
         if let Some(there) = self.next_with(at, instr) {
             return Ok(there);
         }
-        let instr = copy_instr(alloc, instr)?;
+        let instr = instr.copy(alloc)?;
         self.push(at, instr)?;
         Ok(node)
     }

@@ -9,6 +9,7 @@ pub mod entry_matches;
 mod found;
 pub mod holds;
 pub mod item;
+pub mod laws;
 pub mod run;
 mod task;
 mod values;
@@ -18,6 +19,3 @@ pub use answer::Answer;
 pub use batch::Batch;
 pub use entry_matches::EntryMatches;
 pub use item::Item;
-
-#[cfg(test)]
-mod tests;

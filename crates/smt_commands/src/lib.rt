@@ -16,6 +16,3 @@ mod terms;
 pub use command::Command;
 pub use info::Info;
 pub use session::Session;
-
-#[cfg(test)]
-mod tests;

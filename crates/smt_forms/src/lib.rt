@@ -15,6 +15,3 @@ mod put;
 
 pub use applied::apply;
 pub use put::{put_node, put_row};
-
-#[cfg(test)]
-mod tests;

@@ -6,9 +6,11 @@ mod bound;
 mod bound_names;
 mod connective;
 mod definition;
+mod distinct_names;
 mod entries;
 mod head;
 mod level;
+mod linked;
 mod names;
 mod refusal;
 mod session_state;
@@ -23,6 +25,7 @@ pub use bound::Bound;
 pub use bound_names::BoundNames;
 pub use connective::Connective;
 pub use definition::Definition;
+pub use distinct_names::DistinctNames;
 pub use head::Head;
 pub use level::Level;
 pub use names::{
@@ -36,6 +39,3 @@ pub use stands::Stands;
 pub use stop::Stop;
 pub use syntax_fault::SyntaxFault;
 pub use value::Value;
-
-#[cfg(test)]
-mod tests;

@@ -24,6 +24,3 @@ pub use cursor::{
 pub use elaborate::elaborate_term;
 pub use frame::Inside;
 pub use numbers::{is_wide, number_of};
-
-#[cfg(test)]
-mod tests;

@@ -1,6 +1,6 @@
 use Rattle.std.proofs.Common.{◌≡◌, ◌∙◌, ◌-◌, ◌<◌, ◌≤◌, take, length, List, ℕ, ap, ap₂, sym, subst, arith}
 use Rattle.std.proofs.lemmas.List.{length-take-le}
-use Rattle.match_code.specs.declared.code.Instr.{Instr}
+use Rattle.match_code.specs.declared.instr.Instr.{Instr}
 use Rattle.match_forest.specs.Trees.{Trees, AreTrees, trees_front}
 use Rattle.match_forest.proofs.NodeLemmas.{pop_is, front_sound, kept_trees}
 use Rattle.match_forest.proofs.node_table.NodeTable.pop.Goals as goal

@@ -1,5 +1,5 @@
 use Rattle.std.proofs.Common.{◌≡◌, ◌∙◌, ◌<◌, ◌∷◌, [], ◌++◌, ℕ, length, slice_get, Some, IfSome, ap, ap₂, sym, subst, arith, length-append}
-use Rattle.match_code.specs.declared.code.Instr.{Instr}
+use Rattle.match_code.specs.declared.instr.Instr.{Instr}
 use Rattle.match_forest.specs.Trees.{Trees, AreTrees, with_node}
 use Rattle.match_forest.proofs.NodeLemmas.{push_is, with_sound, kept_trees}
 use Rattle.match_forest.proofs.node_table.NodeTable.push.Goals as goal

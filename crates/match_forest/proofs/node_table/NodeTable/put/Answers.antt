@@ -1,5 +1,5 @@
 use Rattle.std.proofs.Common.{◌≡◌, ◌∙◌, Option, ap, sym, subst}
-use Rattle.match_code.specs.declared.code.Instr.{Instr}
+use Rattle.match_code.specs.declared.instr.Instr.{Instr}
 use Rattle.match_forest.specs.Trees.{with_node}
 use Rattle.match_forest.proofs.NodeLemmas.{puts_old, puts_new}
 use Rattle.match_forest.proofs.node_table.NodeTable.put.Goals as goal

@@ -1,5 +1,5 @@
 use Rattle.std.proofs.Common.{◌<◌, List, length}
-use Rattle.match_code.specs.declared.code.Instr.{Instr}
+use Rattle.match_code.specs.declared.instr.Instr.{Instr}
 use Rattle.match_forest.specs.Trees.{Path}
 use Rattle.match_forest.proofs.node_table.NodeTable.root_above.Given as goal
 

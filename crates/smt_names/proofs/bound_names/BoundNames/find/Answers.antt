@@ -1,23 +1,24 @@
-use Rattle.std.proofs.Common.{◌≡◌, ◌≤◌, ◌-◌, List, length, get_or, Some, sym, ap, ◌∙◌, arith, bytes_eq}
-use Rattle.graph_terms.specs.ListLaws.{get_or-any}
+use Rattle.std.proofs.Common.{ℕ, List, reverse, Option, Some, None, get_or, sym, ap, ◌∙◌}
+use Rattle.std.proofs.lemmas.List.{reverse-reverse}
 use Rattle.smt_names.specs.declared.bound.Bound.{Bound}
+use Rattle.smt_names.specs.declared.linked.Linked.{Linked}
 use Rattle.smt_names.specs.Names.{bound_as}
-use Rattle.smt_names.proofs.BoundLemmas.{found, passed}
+use Rattle.smt_names.specs.BoundInside.{bound_in, bound_at}
+use Rattle.smt_names.proofs.BoundLemmas.{unbound, bound_by}
 use Rattle.smt_names.proofs.bound_names.BoundNames.find.Goals as goal
 
-pub returns-then-eq : goal.returns-then-eq
-returns-then-eq c =
-    let items = c.as_slice-items.result.now in
-    let d = c.index-items-left.result in
-    let e = c.index-items-left-then-eq.result in
-    let within : c.loop-left.left ≤ length items = c.loop-left.invariant.0 in
-    ap Some (c.index-items-left-then-eq.is ∙ get_or-any items (c.loop-left.left - 1) e d (omega arith))
-    ∙ found c.args.name.now items c.loop-left.left d (omega arith) within c.loop-left.invariant.1 (ap (bytes_eq c.args.name.now) (sym c.as_slice.ensures) ∙ sym c.if-eq.ensures)
-    ∙ ap (λ (bound : List Bound). bound_as bound c.args.name.now) (c.as_slice-items.ensures.value ∙ c.self.view_is)
+pub returns-in-None : goal.returns-in-None
+returns-in-None c = sym (ap (λ (items : List Linked). bound_as (bound_in items) c.args.name.now) (sym (reverse-reverse c.self.inside.items.items))
+    ∙ unbound c.self.inside.names c.args.name.now (reverse c.self.inside.items.items) (sym c.in-None.ensures) c.self.invariant.linked)
+    ∙ ap (λ (bound : List Bound). bound_as bound c.args.name.now) c.self.view_is
 
-pub loop-left-preserved : goal.loop-left-preserved
-loop-left-preserved c =
-    let items = c.as_slice-items.result.now in
-    let d = c.index-items-left.result in
-    let within : c.loop-left.left ≤ length items = c.loop-left.invariant.0 in
-    (omega arith, passed c.args.name.now items c.loop-left.left d (omega arith) within c.loop-left.invariant.1 (ap (bytes_eq c.args.name.now) (sym c.as_slice.ensures) ∙ sym c.if-eq.ensures))
+pub returns-in-None-last_of : goal.returns-in-None-last_of
+returns-in-None-last_of c = sym (bound_by c.self.inside.names c.args.name.now c.self.inside.items.items c.self.inside.last.items c.in-Some.number None c.self.invariant.linked c.self.invariant.last (sym c.in-Some.ensures)
+    (c.in-None-last_of.ensures ∙ ap (λ (last : List (Option ℕ)). get_or last c.in-Some.number None) c.as_slice.ensures.value))
+    ∙ ap (λ (bound : List Bound). bound_as bound c.args.name.now) c.self.view_is
+
+pub returns-in-Some-last_of : goal.returns-in-Some-last_of
+returns-in-Some-last_of c = c.bound_at.ensures ∙ ap (λ (items : List Linked). bound_at items c.in-Some-last_of.place) c.as_slice-in-Some-last_of.ensures.value
+    ∙ sym (bound_by c.self.inside.names c.args.name.now c.self.inside.items.items c.self.inside.last.items c.in-Some.number (Some c.in-Some-last_of.place) c.self.invariant.linked c.self.invariant.last (sym c.in-Some.ensures)
+    (c.in-Some-last_of.ensures ∙ ap (λ (last : List (Option ℕ)). get_or last c.in-Some.number None) c.as_slice.ensures.value))
+    ∙ ap (λ (bound : List Bound). bound_as bound c.args.name.now) c.self.view_is

@@ -1,0 +1,2 @@
+//! Formulas that are made and entered.
+mod entry;

@@ -1,3 +1,0 @@
-//! The machine on small graphs.
-mod fixture;
-mod listing;

@@ -1,0 +1,6 @@
+//! What is read of a script, and what its commands mean.
+mod commands;
+mod forms;
+mod names;
+mod terms;
+mod text;

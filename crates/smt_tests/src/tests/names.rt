@@ -1,0 +1,230 @@
+//! Each public call once.
+use em_outside::Limits;
+use formula_draft::FormulaDraft;
+use graph_terms::{Memory, Numbers};
+use smt_names::{
+    BoundNames, Connective, Definition, Head, Refusal, SessionState, Signature, Stands, Stop,
+    Value, check_lawful_name, is_keyword, is_numeral,
+};
+use smt_text::{Kind, Place};
+use std::alloc::Global;
+use std::test::Fail;
+
+const HERE: Place = Place { line: 1, column: 9 };
+
+fn declare_sort(state: &mut SessionState, name: &[u8]) -> Result<(), Stop> {
+    state.check_sort_name(Kind::Symbol, HERE, name)?;
+    state.declare_sort(name)?;
+    Ok(())
+}
+
+fn declare_function(
+    state: &mut SessionState,
+    name: &[u8],
+    signature: Signature,
+) -> Result<(), Stop> {
+    state.check_function_name(Kind::Symbol, HERE, name)?;
+    state.declare_function(name, signature)?;
+    Ok(())
+}
+
+fn define(state: &mut SessionState, name: &[u8], definition: Definition) -> Result<(), Stop> {
+    state.check_function_name(Kind::Symbol, HERE, name)?;
+    state.define(name, definition)?;
+    Ok(())
+}
+
+fn open_level(state: &mut SessionState) -> Result<(), Stop> {
+    if state.levels() < state.limits().levels {
+        state.push(1)?;
+    }
+    Ok(())
+}
+
+fn close_level(state: &mut SessionState) {
+    if state.levels() > 0 {
+        state.pop(1);
+    }
+}
+
+/// A function of two arguments.
+fn signature(alloc: Global) -> Result<Signature, Memory> {
+    let arguments = Numbers::from_slice(alloc, &[1, 2])?;
+    Ok(Signature { arguments, sort: 1 })
+}
+
+/// A definition without rows and nodes.
+fn definition(alloc: Global) -> Result<Definition, Memory> {
+    let parameters = Numbers::from_slice(alloc, &[])?;
+    let value = Value::Formula {
+        itself: 0,
+        complement: None,
+    };
+    Ok(Definition {
+        parameters,
+        sort: 0,
+        draft: FormulaDraft::new(alloc, 4, 4),
+        value,
+    })
+}
+
+/// Two sorts, a function in a level, and a definition in a level more.
+fn declared(alloc: Global) -> Result<SessionState, Stop> {
+    let mut state = SessionState::new(alloc, &Limits::standard());
+    declare_sort(&mut state, b"U".as_slice())?;
+    declare_sort(&mut state, b"V".as_slice())?;
+    open_level(&mut state)?;
+    declare_function(&mut state, b"f".as_slice(), signature(alloc)?)?;
+    open_level(&mut state)?;
+    define(&mut state, b"d".as_slice(), definition(alloc)?)?;
+    Ok(state)
+}
+
+fn has_head(state: &SessionState, name: &[u8], head: Head) -> bool {
+    state.head(name) == head
+}
+
+fn has_sort(state: &SessionState, name: &[u8], sort: Option<u32>) -> bool {
+    state.sort(name) == sort
+}
+
+/// Whether the function and the definition at place 0 have these sorts.
+fn has_sorts(state: &SessionState, function: u32, definition: u32) -> bool {
+    match state.signature(0) {
+        None => false,
+        Some(found) => {
+            if found.sort != function {
+                return false;
+            }
+            match state.definition(0) {
+                None => false,
+                Some(found) => found.sort == definition,
+            }
+        }
+    }
+}
+
+fn has_name(state: &SessionState, name: &[u8]) -> bool {
+    match state.function_name(0) {
+        None => false,
+        Some(found) => found == name,
+    }
+}
+
+/// The refusal of a step that was refused.
+fn refusal<T: Drop>(step: Result<T, Stop>) -> Option<Refusal> {
+    match step {
+        Ok(_) => None,
+        Err(Stop::Memory) => Some(Refusal::Memory),
+        Err(Stop::Refused(fault)) => Some(fault.refusal),
+    }
+}
+
+#[test]
+fn names_stand_for_what_was_declared_until_their_level_is_closed(
+    rt: HostRuntime,
+) -> Result<(), Fail> {
+    let mut state = declared(rt.alloc())?;
+    assert!(rt; has_head(&state, b"=>".as_slice(), Head::Core(Connective::Implies)));
+    assert!(rt; has_head(&state, b"f".as_slice(), Head::Function(0)));
+    assert!(rt; has_head(&state, b"d".as_slice(), Head::Definition(0)));
+    assert!(rt; has_head(&state, b"U".as_slice(), Head::Unknown));
+    assert!(rt; has_sort(&state, b"V".as_slice(), Some(2)));
+    assert!(rt; has_name(&state, b"f".as_slice()));
+    assert!(rt; has_sorts(&state, 1, 0));
+    close_level(&mut state);
+    assert!(rt; has_head(&state, b"d".as_slice(), Head::Unknown));
+    assert!(rt; has_head(&state, b"f".as_slice(), Head::Function(0)));
+    close_level(&mut state);
+    assert!(rt; has_head(&state, b"f".as_slice(), Head::Unknown));
+    Ok(())
+}
+
+#[test]
+fn clearing_keeps_the_option_and_a_reset_does_not(rt: HostRuntime) -> Result<(), Fail> {
+    let mut state = declared(rt.alloc())?;
+    state.set_prints_success(true);
+    state.clear();
+    assert!(rt; has_sort(&state, b"U".as_slice(), None));
+    assert!(rt; state.prints_success());
+    state.reset();
+    assert!(rt; !state.prints_success());
+    Ok(())
+}
+
+fn function_refusal(state: &SessionState, name: &[u8]) -> Option<Refusal> {
+    refusal(state.check_function_name(Kind::Symbol, HERE, name))
+}
+
+fn sort_refusal(state: &SessionState, name: &[u8]) -> Option<Refusal> {
+    refusal(state.check_sort_name(Kind::Symbol, HERE, name))
+}
+
+#[test]
+fn names_are_refused_for_the_first_reason(rt: HostRuntime) -> Result<(), Fail> {
+    let state = declared(rt.alloc())?;
+    let bad = Some(Refusal::BadForm);
+    let again = Some(Refusal::AlreadyDeclared);
+    assert_eq!(rt; function_refusal(&state, b"g".as_slice()), None);
+    assert_eq!(rt; function_refusal(&state, b"f".as_slice()), again);
+    assert_eq!(rt; function_refusal(&state, b"par".as_slice()), bad);
+    assert_eq!(rt; function_refusal(&state, b"@g".as_slice()), bad);
+    assert_eq!(rt; sort_refusal(&state, b"f".as_slice()), None);
+    assert_eq!(rt; sort_refusal(&state, b"U".as_slice()), again);
+    Ok(())
+}
+
+/// The refusals of a sort, and of one other than Bool.
+fn token_refusals(state: &SessionState, name: &[u8]) -> (Option<Refusal>, Option<Refusal>) {
+    let any = refusal(state.sort_of_token(Kind::Symbol, HERE, name));
+    let other = refusal(state.other_sort_of_token(Kind::Symbol, HERE, name));
+    (any, other)
+}
+
+#[test]
+fn bool_is_a_sort_and_no_other_sort(rt: HostRuntime) -> Result<(), Fail> {
+    let state = declared(rt.alloc())?;
+    let (any, other) = token_refusals(&state, b"Bool".as_slice());
+    assert_eq!(rt; any, None);
+    assert_eq!(rt; other, Some(Refusal::NotInProfile));
+    let name = check_lawful_name(rt.alloc(), Kind::Keyword, HERE, b":g".as_slice());
+    assert_eq!(rt; refusal(name), Some(Refusal::BadForm));
+    assert!(rt; is_keyword(Kind::Keyword));
+    assert!(rt; is_numeral(Kind::Numeral));
+    Ok(())
+}
+
+fn stands_of(bound: &BoundNames, name: &[u8]) -> Option<Stands> {
+    match bound.find(name) {
+        None => None,
+        Some(binding) => Some(binding.stands),
+    }
+}
+
+#[test]
+fn the_last_binding_of_a_name_wins(rt: HostRuntime) -> Result<(), Fail> {
+    let mut bound = BoundNames::new(rt.alloc());
+    let value = Stands::Given(Value::Term { row: 7, sort: 1 });
+    let variable = Stands::Variable { index: 0, sort: 1 };
+    bound.push(b"x".as_slice(), variable)?;
+    bound.push(b"y".as_slice(), variable)?;
+    bound.push(b"x".as_slice(), value)?;
+    assert_eq!(rt; stands_of(&bound, b"x".as_slice()), Some(value));
+    assert_eq!(rt; bound.len(), 3);
+    bound.truncate(2);
+    assert_eq!(rt; stands_of(&bound, b"x".as_slice()), Some(variable));
+    assert_eq!(rt; stands_of(&bound, b"z".as_slice()), None);
+    Ok(())
+}
+
+#[test]
+fn values_tell_their_parts(rt: HostRuntime) {
+    let term = Value::Term { row: 7, sort: 1 };
+    assert_eq!(rt; (term.row(), term.sort(), term.complement()), (7, 1, None));
+    let formula = Value::Formula {
+        itself: 3,
+        complement: Some(4),
+    };
+    assert_eq!(rt; (formula.node(), formula.other()), (3, 4));
+    assert_eq!(rt; formula.swapped().node(), 4);
+}

@@ -1,0 +1,254 @@
+//! Foralls with triggers, and how each trigger is refused.
+use em_outside::{Limits, SureSource};
+use formula_draft::{DraftForall, FormulaDraft};
+use graph_terms::Numbers;
+use graph_trigger::{PatternRow, Trigger};
+use smt_names::{BoundNames, Refusal, SessionState, Signature, Stop};
+use smt_terms::{Inside, elaborate_term};
+use smt_text::{Kind, Place, Tree, TreeReader};
+use std::alloc::Global;
+use std::test::Fail;
+
+const HERE: Place = Place { line: 1, column: 1 };
+
+/// What came of a formula.
+#[derive(Clone, Copy, Debug, PartialEq, Eq)]
+enum Came {
+    /// A forall: how many rows and nodes there are, how many triggers and patterns of the first it has, and the symbol of
+    /// the first pattern.
+    Forall {
+        rows: u32,
+        nodes: u32,
+        triggers: u32,
+        patterns: u32,
+        symbol: u32,
+    },
+    /// A refusal, at a column of the first line, and how long the name is that it speaks of.
+    Refused {
+        refusal: Refusal,
+        column: u32,
+        name: usize,
+    },
+    /// No forall with a trigger that keeps to the rules, or no memory.
+    Other,
+}
+
+fn declare(
+    alloc: Global,
+    state: &mut SessionState,
+    name: &[u8],
+    arguments: &[u32],
+    sort: u32,
+) -> Result<(), Stop> {
+    let arguments = Numbers::from_slice(alloc, arguments)?;
+    state.check_function_name(Kind::Symbol, HERE, name)?;
+    state.declare_function(name, Signature { arguments, sort })?;
+    Ok(())
+}
+
+/// A sort U, a predicate p of one argument, whose symbol is 2, and functions f of one and g of two, 3 and 4.
+fn declared(alloc: Global) -> Result<SessionState, Stop> {
+    let mut state = SessionState::new(alloc, &Limits::standard());
+    state.check_sort_name(Kind::Symbol, HERE, b"U".as_slice())?;
+    state.declare_sort(b"U".as_slice())?;
+    declare(alloc, &mut state, b"p".as_slice(), &[1], 0)?;
+    declare(alloc, &mut state, b"f".as_slice(), &[1], 1)?;
+    declare(alloc, &mut state, b"g".as_slice(), &[1, 1], 1)?;
+    Ok(state)
+}
+
+/// The symbol of a trigger's first pattern, and 0 where it has none.
+fn first_symbol(trigger: &Trigger) -> u32 {
+    let roots = trigger.roots.as_slice();
+    if roots.len() == 0 {
+        return 0;
+    }
+    let root = roots[0];
+    if root >= trigger.rows.len() {
+        return 0;
+    }
+    match trigger.rows.get(root) {
+        PatternRow::Var { .. } => 0,
+        PatternRow::App { symbol, .. } => *symbol,
+    }
+}
+
+fn forall_so(rows: u32, nodes: u32, forall: &DraftForall) -> Came {
+    if forall.triggers.len() == 0 {
+        return Came::Other;
+    }
+    let first = forall.triggers.get(0);
+    if !first.valid() {
+        return Came::Other;
+    }
+    Came::Forall {
+        rows,
+        nodes,
+        triggers: forall.triggers.len(),
+        patterns: first.roots.as_slice().len() as u32,
+        symbol: first_symbol(first),
+    }
+}
+
+/// What comes of the tree at the beginning of a command.
+fn came_of_tree(alloc: Global, state: &SessionState, tree: &Tree) -> Came {
+    let mut draft = FormulaDraft::new(alloc, 1000, 1000);
+    let mut bound = BoundNames::new(alloc);
+    let inside = Inside {
+        in_forall: false,
+        in_definition: false,
+    };
+    match elaborate_term(alloc, &mut draft, state, tree, &mut bound, inside, 0, HERE) {
+        Err(Stop::Memory) => Came::Other,
+        Err(Stop::Refused(fault)) => Came::Refused {
+            refusal: fault.refusal,
+            column: fault.place.column,
+            name: fault.name.as_slice().len(),
+        },
+        Ok(_) => {
+            if draft.foralls() == 0 {
+                return Came::Other;
+            }
+            forall_so(draft.rows(), draft.nodes(), draft.forall_at(0))
+        }
+    }
+}
+
+/// What comes of a formula.
+fn came_of(alloc: Global, state: &SessionState, text: &str) -> Result<Came, Fail> {
+    let mut reader = TreeReader::new(alloc, &Limits::standard())?;
+    let mut source = SureSource::new(text.as_bytes().to_vec(alloc)?, 4096);
+    match reader.next_tree(&mut source)? {
+        None => Ok(Came::Other),
+        Some(tree) => Ok(came_of_tree(alloc, state, &tree)),
+    }
+}
+
+fn forall(rows: u32, nodes: u32, triggers: u32, patterns: u32, symbol: u32) -> Came {
+    Came::Forall {
+        rows,
+        nodes,
+        triggers,
+        patterns,
+        symbol,
+    }
+}
+
+fn refused(refusal: Refusal, column: u32) -> Came {
+    Came::Refused {
+        refusal,
+        column,
+        name: 0,
+    }
+}
+
+#[test]
+fn foralls_have_their_triggers_in_order(rt: HostRuntime) -> Result<(), Fail> {
+    let state = declared(rt.alloc())?;
+    for (text, came) in [
+        (
+            "(forall ((x U)) (! (p x) :pattern ((p x))))",
+            forall(2, 3, 1, 1, 2),
+        ),
+        (
+            "(forall ((x U) (y U)) (! (= (g x (f y)) x) :pattern ((f x) (f y)) :pattern ((g x (f y)))))",
+            forall(5, 3, 2, 2, 3),
+        ),
+        (
+            "(forall ((x U)) (! (! (p x) :named n :pattern ((p x))) :pattern ((f x))))",
+            forall(3, 3, 2, 1, 3),
+        ),
+        (
+            "(let ((c true)) (forall ((x U)) (! (and (p x) c) :pattern ((! (p x) :named n)))))",
+            forall(2, 7, 1, 1, 2),
+        ),
+    ] {
+        assert_eq!(rt; came_of(rt.alloc(), &state, text)?, came, "{text}");
+    }
+    Ok(())
+}
+
+#[test]
+fn each_fault_of_a_trigger_has_its_place(rt: HostRuntime) -> Result<(), Fail> {
+    let state = declared(rt.alloc())?;
+    for (text, came) in [
+        ("(forall ((x U)) (p x))", refused(Refusal::NotInProfile, 2)),
+        (
+            "(forall ((x U)) (! (f x) :pattern ((p x))))",
+            refused(Refusal::WrongSort, 20),
+        ),
+        (
+            "(forall ((x U)) (! (p x) :pattern))",
+            refused(Refusal::BadForm, 26),
+        ),
+        (
+            "(forall ((x U)) (! (p x) :pattern :named n))",
+            refused(Refusal::BadForm, 26),
+        ),
+        (
+            "(forall ((x U)) (! (p x) :pattern x))",
+            refused(Refusal::BadForm, 35),
+        ),
+        (
+            "(forall ((x U)) (! (p x) :pattern ()))",
+            refused(Refusal::BadForm, 35),
+        ),
+        (
+            "(forall ((x U)) (! (p x) :pattern (x)))",
+            refused(Refusal::PatternIsVariable, 36),
+        ),
+        (
+            "(forall ((x U)) (! (p x) :pattern ((not (p x)))))",
+            refused(Refusal::PatternHasConnective, 36),
+        ),
+        (
+            "(forall ((x U)) (! (p x) :pattern ((f x) (= x x))))",
+            refused(Refusal::PatternHasConnective, 42),
+        ),
+        (
+            "(forall ((x U)) (! (p x) :pattern ((p x) 3)))",
+            refused(Refusal::NotInProfile, 42),
+        ),
+        (
+            "(forall ((x U)) (! (p x) :pattern ((forall ((y U)) (p y)))))",
+            refused(Refusal::NotInProfile, 37),
+        ),
+    ] {
+        assert_eq!(rt; came_of(rt.alloc(), &state, text)?, came, "{text}");
+    }
+    Ok(())
+}
+
+#[test]
+fn a_trigger_has_each_variable_and_not_too_much(rt: HostRuntime) -> Result<(), Fail> {
+    let state = declared(rt.alloc())?;
+    for (text, came) in [
+        (
+            "(forall ((x U) (why U)) (! (p x) :pattern ((p x) (f x))))",
+            Came::Refused {
+                refusal: Refusal::PatternWithoutVariable,
+                column: 43,
+                name: 3,
+            },
+        ),
+        (
+            "(forall ((x U)) (! (p x) :pattern ((p x) (p x) (p x) (p x) (p x) (p x) (p x) (p x) (p x) (p x) (p x) (p x) (p x) (p x) (p x) (p x))))",
+            forall(2, 3, 1, 16, 2),
+        ),
+        (
+            "(forall ((x U)) (! (p x) :pattern (x (p x) (p x) (p x) (p x) (p x) (p x) (p x) (p x) (p x) (p x) (p x) (p x) (p x) (p x) (p x) h)))",
+            refused(Refusal::TooManyPatterns, 128),
+        ),
+        (
+            "(forall ((x U)) (! (p x) :pattern ((let ((x (g x x))) (let ((x (g x x))) (let ((x (g x x))) (let ((x (g x x))) (let ((x (g x x))) (let ((x (g x x))) (let ((x (g x x))) (f x))))))))))))",
+            forall(10, 3, 1, 1, 3),
+        ),
+        (
+            "(forall ((x U)) (! (p x) :pattern ((let ((x (g x x))) (let ((x (g x x))) (let ((x (g x x))) (let ((x (g x x))) (let ((x (g x x))) (let ((x (g x x))) (let ((x (g x x))) (f (f x)))))))))))))",
+            refused(Refusal::PatternTooLarge, 36),
+        ),
+    ] {
+        assert_eq!(rt; came_of(rt.alloc(), &state, text)?, came, "{text}");
+    }
+    Ok(())
+}
