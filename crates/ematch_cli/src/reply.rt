@@ -65,7 +65,7 @@ fn forget(alloc: Global, limits: &Limits, stack: &mut AssertionStack) -> Result<
     requires { AreLawful limits.now }
     ensures { OnOk result (stack.new ≡ no_assertions limits.now.terms limits.now.nodes) }
 {
-    *stack = AssertionStack::new(alloc, limits)?;
+    *stack = AssertionStack::new(alloc, limits.terms, limits.nodes)?;
     Ok(())
 }
 

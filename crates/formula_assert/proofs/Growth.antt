@@ -16,7 +16,7 @@ use Rattle.graph_meaning.specs.State.{GraphState, replay, state_after}
 use Rattle.formula_table.specs.declared.node.Node.{Node}
 use Rattle.formula_table.specs.Formulas.{NodesStand}
 use Rattle.formula_table.specs.Node.{terms_in}
-use Rattle.formula_assert.specs.GraphTerms.{adding, with_terms}
+use Rattle.match_graph.specs.GraphTerms.{adding, with_terms}
 use Rattle.formula_assert.specs.Held.{Held}
 use Rattle.formula_assert.specs.InLevel.{IsInLevel, GrowsGraph, HoldsMore}
 

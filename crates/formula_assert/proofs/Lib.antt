@@ -1,6 +1,6 @@
 pub mod Growth
+pub mod BackLemmas
 pub mod WorkLemmas
 pub mod OperationLemmas
-pub mod EnteredTerms
 pub mod StackLemmas
 pub mod AssertLemmas

@@ -1,6 +1,7 @@
 -- What levels keep.
 use Rattle.std.proofs.Common.{◌≡◌, ℕ, ◌+◌, ◌<◌, ◌≤◌, List, [], ◌∷◌, ◌++◌, length, map, take, reverse, refl, sym, ap, ap₂, subst, ◌∙◌, ⊎_elim, append-nil, ◌^◌, arith}
 use Rattle.std.specs.List.{before_last}
+use Rattle.std.proofs.Math.Seq.{take-append_seam}
 use Rattle.std.proofs.lemmas.List.{take-take, take-append-le, take_all, length-append, length-take, reverse-append}
 use Rattle.std.proofs.lemmas.Option.{none-some}
 use Rattle.graph_meaning.specs.declared.done.Done.{Done}
@@ -21,9 +22,10 @@ use Rattle.formula_table.specs.Formulas.{Formulas, IsFormulaTable, GrowsTable, N
 use Rattle.formula_assert.specs.declared.level.Level.{Level}
 use Rattle.formula_assert.specs.Assertions.{Saved, Assertions, pushed, popped, restored}
 use Rattle.formula_assert.specs.InLevel.{GrowsGraph, KeepsLevels, StandAlike}
+use Rattle.formula_assert.specs.AssertFormula.{StopsAssert, KeepsFormulas}
 use Rattle.formula_assert.specs.Stands.{IsTableOver, AreSaved}
 use Rattle.formula_assert.specs.StackInside.{saved_of, Fall, IsStackOf, assertions_with}
-use Rattle.formula_assert.specs.GraphTerms.{with_terms}
+use Rattle.match_graph.specs.GraphTerms.{with_terms}
 use Rattle.formula_assert.proofs.Growth.{levels_of-opened, before_last-opened, opened_longer, last_same, limit_same, levels_same, grows_terms, terms_longer}
 use Rattle.formula_assert.proofs.Growth.{NodesStand-more}
 
@@ -242,6 +244,30 @@ grows_entered formula terms old new number grows = record {
   limit_is = ap (λ (formulas : Formulas). formulas.limit) grows.new_is;
 }
 
+-- why a formula is not entered is why it is not asserted
+pub refused_stops : (formula : Formula) (before after : Assertions) (fault : EnterFault) → KeepsFormulas before after → StopsEntry (λ more. after.graph ≡ with_terms before.graph more) (λ added. (middle : GraphState) × (middle ≡ with_terms before.graph added) × (after.graph ≡ middle)) formula (terms_of before.graph.standing) before.graph.limit before.formulas fault → StopsAssert formula before after fault
+refused_stops formula before after TermsFull keeps stops = (stops, keeps)
+refused_stops formula before after NodesFull keeps stops = (stops, keeps)
+refused_stops formula before after Memory keeps stops = (record { added = stops.added; terms = stops.terms; grew = ⊎_elim (λ grew. grew) (λ p. p.2 ∙ p.1) stops.grew; enters = stops.enters }, keeps)
+
+-- a table that grew, cut back to what it had
+module _ (table grown : Formulas) (grows : GrowsTable table grown) (nodes foralls : ℕ) (nodes_are : nodes ≡ length table.nodes) (foralls_are : foralls ≡ length table.foralls) where
+  pub cut_back : first_formulas nodes foralls grown ≡ table
+  cut_back =
+      same_formulas (take nodes grown.nodes) table.nodes (take foralls grown.foralls) table.foralls grown.limit table.limit
+      (ap (λ (n : ℕ). take n grown.nodes) nodes_are ∙ ap (take (length table.nodes)) grows.nodes_are ∙ take-append_seam table.nodes grows.more_nodes)
+      (ap (λ (n : ℕ). take n grown.foralls) foralls_are ∙ ap (take (length table.foralls)) grows.foralls_are ∙ take-append_seam table.foralls grows.more_foralls)
+      grows.limit_is
+
+  pub cut_named : IsFormulaTable table → NamesFirst grown nodes foralls
+  cut_named is = first_named grown nodes foralls (subst IsFormulaTable (sym cut_back) is)
+
+  pub cut_nodes : nodes ≤ length grown.nodes
+  cut_nodes = omega (arith, nodes_are, ap length grows.nodes_are, length-append table.nodes grows.more_nodes)
+
+  pub cut_foralls : foralls ≤ length grown.foralls
+  cut_foralls = omega (arith, foralls_are, ap length grows.foralls_are, length-append table.foralls grows.more_foralls)
+
 -- after a refused entry
 module _ (graph later : GraphState) (table same : Formulas) (asserted : List ℕ) (levels : List Level) (formula : Formula) (fault : EnterFault) (stack : IsStackOf graph table asserted levels) (is : same ≡ table)
     (stops : StopsEntry (λ more. later ≡ with_terms graph more) (λ added. (middle : GraphState) × (middle ≡ with_terms graph added) × (later ≡ middle)) formula (terms_of graph.standing) graph.limit table fault) where
@@ -253,6 +279,13 @@ module _ (graph later : GraphState) (table same : Formulas) (asserted : List ℕ
   refused_stack =
       stack_grown graph later table same asserted asserted [] levels stack refused_grows (grows_nothing table same is) (sym (append-nil asserted))
       (subst (λ (formulas : Formulas). NodesStand (length (terms_of later.standing)) formulas.nodes) (sym is) (NodesStand-more (length (terms_of graph.standing)) (length (terms_of later.standing)) table.nodes (terms_longer graph later refused_grows) stack.terms_stand))
+
+  -- the formula is not asserted
+  pub refused_assert : StopsAssert formula (assertions_with graph table asserted levels) (assertions_with later same asserted levels) fault
+  refused_assert =
+      refused_stops formula (assertions_with graph table asserted levels) (assertions_with later same asserted levels) fault
+      (record { formulas_are = is; asserted_are = refl; saved_are = saved_same graph later table same asserted asserted [] levels stack refused_grows (grows_nothing table same is) (sym (append-nil asserted)) })
+      stops
 
   -- and its levels are as before
   pub refused_keeps : KeepsLevels (assertions_with graph table asserted levels) (assertions_with later same asserted levels)

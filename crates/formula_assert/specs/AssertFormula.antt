@@ -1,12 +1,13 @@
 -- What it is to assert a formula: it is entered, and then its root is asserted.
-use Rattle.std.specs.Prelude.{◌≡◌, ℕ}
+use Rattle.std.specs.Prelude.{◌≡◌, ℕ, List}
+use Rattle.graph_terms.specs.declared.term_row.TermRow.{TermRow}
 use Rattle.graph_meaning.specs.Standing.{terms_of}
 use Rattle.graph_meaning.specs.State.{GraphState}
 use Rattle.formula_draft.specs.Draft.{Formula}
 use Rattle.formula_table.specs.declared.enter_fault.EnterFault.{EnterFault}
 use Rattle.formula_table.specs.declared.enter_fault.EnterFault.TheVariants.{TermsFull, NodesFull, Memory}
-use Rattle.formula_table.specs.Entry.{Enters, FillsTerms, LacksNodes}
-use Rattle.formula_assert.specs.GraphTerms.{with_terms}
+use Rattle.formula_table.specs.Entry.{Enters, EntersRows, FillsTerms, LacksNodes}
+use Rattle.match_graph.specs.GraphTerms.{with_terms}
 use Rattle.formula_assert.specs.Held.{held}
 use Rattle.formula_assert.specs.Asserts.{Asserts}
 use Rattle.formula_assert.specs.Assertions.{Assertions, held_of}
@@ -25,9 +26,16 @@ pub record KeepsFormulas (before after : Assertions) : Type 0 where
   pub asserted_are : after.asserted ≡ before.asserted
   pub saved_are : after.saved ≡ before.saved
 
+-- the first terms of the formula were added
+pub record GainsTerms (formula : Formula) (before after : GraphState) : Type 0 where
+  pub added : List TermRow
+  pub terms : List ℕ
+  pub grew : after ≡ with_terms before added
+  pub enters : EntersRows formula (terms_of before.standing) before.limit added terms
+
 -- the formula was not asserted: there was no room for its next term, or none for its next node once the graph had gained all
--- its terms, and but for the terms all is as before; or memory was refused
+-- its terms, or memory was refused; but for its first terms all is as before
 abbrev pub StopsAssert : Formula → Assertions → Assertions → EnterFault → Type 0
 StopsAssert formula before after TermsFull = FillsTerms (λ more. after.graph ≡ with_terms before.graph more) formula (terms_of before.graph.standing) before.graph.limit × KeepsFormulas before after
 StopsAssert formula before after NodesFull = LacksNodes (λ more. after.graph ≡ with_terms before.graph more) formula (terms_of before.graph.standing) before.graph.limit before.formulas × KeepsFormulas before after
-StopsAssert formula before after Memory = Unit {0}
+StopsAssert formula before after Memory = GainsTerms formula before.graph after.graph × KeepsFormulas before after

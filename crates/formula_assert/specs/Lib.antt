@@ -1,5 +1,3 @@
-pub mod GraphTerms
-pub mod GraphTermsLaws
 pub mod Held
 pub mod Asserts
 pub mod Assertions

@@ -19,8 +19,8 @@ use Rattle.formula_table.specs.declared.enter_fault.EnterFault.TheVariants.{Term
 use Rattle.formula_table.specs.EntryLaws.{enters_once-into, full_terms_once, full_terms_not_entered, full_terms_not_lacking, lacking_nodes_once, lacking_nodes_not_entered}
 use Rattle.formula_table.specs.Formulas.{Formulas, IsFormulaTable, no_formulas}
 use Rattle.formula_table.specs.StandLaws.{stands_after}
-use Rattle.formula_assert.specs.GraphTerms.{adding, with_terms}
-use Rattle.formula_assert.specs.GraphTermsLaws.{terms-with_terms}
+use Rattle.match_graph.specs.GraphTerms.{adding, with_terms}
+use Rattle.match_graph.specs.GraphTermsLaws.{terms-with_terms}
 use Rattle.formula_assert.specs.Held.{Held, held}
 use Rattle.formula_assert.specs.Asserts.{Asserts}
 use Rattle.formula_assert.specs.Assertions.{Saved, Assertions, held_of, no_assertions, pushed, popped, restored}

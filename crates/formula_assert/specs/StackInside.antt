@@ -18,7 +18,7 @@ assertions_with graph formulas asserted levels = record { graph = graph; formula
 
 -- the assertions that the fields hold
 abbrev pub assertions_of : Inside → Assertions
-assertions_of inside = assertions_with inside.terms inside.formulas inside.asserted inside.levels.items
+assertions_of inside = assertions_with inside.graph inside.formulas inside.asserted inside.levels.items
 
 -- so many nodes, foralls and asserted nodes stand, and from the innermost level to the outermost ever fewer did
 abbrev pub Fall : ℕ → ℕ → ℕ → List Level → Type 0
@@ -34,4 +34,4 @@ pub record IsStackOf (graph : GraphState) (formulas : Formulas) (asserted : List
 
 -- what the fields keep true
 abbrev pub IsStack : Inside → Type 0
-IsStack inside = IsStackOf inside.terms inside.formulas inside.asserted inside.levels.items
+IsStack inside = IsStackOf inside.graph inside.formulas inside.asserted inside.levels.items

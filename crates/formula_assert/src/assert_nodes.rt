@@ -1,8 +1,8 @@
 //! Asserts a node of the table of formulas, with the parts of conjunctions.
-ghost use Rattle.std.specs.Prelude.{◌≡◌, ℕ, ◌<◌, ◌++◌, ◌∷◌, [], length, map, reverse, slice_get, Some, All, OnOk, if◌then◌else◌};
+ghost use Rattle.std.specs.Prelude.{◌≡◌, ℕ, ◌<◌, ◌++◌, ◌∷◌, [], length, map, reverse, slice_get, Some, All, OnOk, OnErr, if◌then◌else◌};
 ghost use Rattle.graph_meaning.specs.declared.op.Op.TheVariants.{Merge as MergeOp, Differ as DifferOp, Live as LiveOp};
 ghost use Rattle.graph_trigger.specs.Trigger.{IsValid};
-ghost use Rattle.graph_meaning.specs.State.{replay};
+ghost use Rattle.graph_meaning.specs.State.{replay, state_after};
 ghost use Rattle.graph_meaning.specs.Standing.{terms_of};
 ghost use Rattle.formula_table.specs.Formulas.{IsFormulaTable, NodesStand};
 ghost use Rattle.formula_assert.specs.Held.{held, operations_of, conjuncts_of};
@@ -11,9 +11,8 @@ ghost use Rattle.formula_assert.specs.InLevel.{GrowsGraph, HoldsMore};
 ghost use Rattle.formula_assert.specs.WorkList.{AssertsNext};
 
 use crate::asserted_nodes::AssertedNodes;
-use crate::graph_terms::GraphTerms;
+use crate::assertion_graph::AssertionGraph;
 use formula_table::{FormulaTable, Node};
-use graph_meaning::Op;
 use graph_terms::Memory;
 use graph_trigger::Triggers;
 use std::alloc::Global;
@@ -46,68 +45,77 @@ fn push_conjuncts(work: &mut Vec<u32>, node: &Node) -> Result<(), Memory>
 }
 
 /// Makes the triggers live, in order.
-fn make_live(alloc: Global, terms: &mut GraphTerms, triggers: &Triggers) -> Result<(), Memory>
+fn make_live<G: AssertionGraph>(graph: &mut G, triggers: &Triggers) -> Result<(), Memory>
     requires { All IsValid triggers.now }
-    ensures ok { OnOk result (terms.new ≡ replay terms.old (map LiveOp triggers.now)) }
-    ensures grows { GrowsGraph terms.old terms.new }
+    ensures ok { OnOk result (G.state graph.new ≡ replay (G.state graph.old) (map LiveOp triggers.now)) }
+    ensures grows { GrowsGraph (G.state graph.old) (G.state graph.new) }
+    ensures keeps { G.kept graph.old graph.new }
 {
     for i in 0..triggers.len() {
-        let trigger = triggers.get(i).copy(alloc)?;
-        let op = Op::Live { trigger };
-        terms.apply(&op)?;
+        graph.live(triggers.get(i))?;
     }
     Ok(())
 }
 
-/// The operation of an equation, or, where not positive, of a disequation.
-fn equation(positive: bool, left: u32, right: u32) -> Op
-    ensures { result ≡ (if positive then MergeOp left right else DifferOp left right) }
+/// Merges the terms of an equation, or, where it is not positive, keeps them apart.
+fn assert_equation<G: AssertionGraph>(
+    graph: &mut G,
+    positive: bool,
+    left: u32,
+    right: u32,
+) -> Result<(), Memory>
+    requires left { left < length (terms_of (G.state graph.old).standing) }
+    requires right { right < length (terms_of (G.state graph.old).standing) }
+    ensures ok { OnOk result (G.state graph.new ≡ state_after (G.state graph.old) (if positive then MergeOp left right else DifferOp left right)) }
+    ensures err { OnErr result (G.state graph.new ≡ G.state graph.old) }
+    ensures keeps { G.kept graph.old graph.new }
 {
     if positive {
-        Op::Merge { left, right }
+        graph.merge(left, right)
     } else {
-        Op::Differ { left, right }
+        graph.differ(left, right)
     }
 }
 
-/// The operation of an atom, or, where not positive, of a negated one.
-fn truth(positive: bool, term: u32) -> Op
-    ensures { result ≡ MergeOp term (if positive then 0 else 1) }
+/// Merges the term of an atom with true, or, where it is not positive, with false.
+fn assert_truth<G: AssertionGraph>(graph: &mut G, positive: bool, term: u32) -> Result<(), Memory>
+    requires { term < length (terms_of (G.state graph.old).standing) }
+    ensures ok { OnOk result (G.state graph.new ≡ state_after (G.state graph.old) (MergeOp term (if positive then 0 else 1))) }
+    ensures err { OnErr result (G.state graph.new ≡ G.state graph.old) }
+    ensures keeps { G.kept graph.old graph.new }
 {
-    let left = term;
-    let right = if positive { TRUE_TERM } else { FALSE_TERM };
-    Op::Merge { left, right }
+    let truth = if positive { TRUE_TERM } else { FALSE_TERM };
+    graph.merge(term, truth)
 }
 
 /// Does the operations that a node stands for by itself.
-fn do_operations(
-    alloc: Global,
-    terms: &mut GraphTerms,
+fn do_operations<G: AssertionGraph>(
+    graph: &mut G,
     formulas: &FormulaTable,
     node: &Node,
 ) -> Result<(), Memory>
     requires stands { (n : ℕ) × (slice_get formulas.now.nodes n ≡ Some node.now) }
     requires table { IsFormulaTable formulas.now }
-    requires terms { NodesStand (length (terms_of terms.old.standing)) formulas.now.nodes }
-    ensures ok { OnOk result (terms.new ≡ replay terms.old (operations_of formulas.now node.now)) }
-    ensures grows { GrowsGraph terms.old terms.new }
+    requires terms { NodesStand (length (terms_of (G.state graph.old).standing)) formulas.now.nodes }
+    ensures ok { OnOk result (G.state graph.new ≡ replay (G.state graph.old) (operations_of formulas.now node.now)) }
+    ensures grows { GrowsGraph (G.state graph.old) (G.state graph.new) }
+    ensures keeps { G.kept graph.old graph.new }
 {
     match node {
         Node::Equal {
             positive,
             left,
             right,
-        } => terms.apply(&equation(*positive, *left, *right)),
-        Node::Atom { positive, term } => terms.apply(&truth(*positive, *term)),
+        } => assert_equation(graph, *positive, *left, *right),
+        Node::Atom { positive, term } => assert_truth(graph, *positive, *term),
         Node::And { .. } | Node::Or { .. } => Ok(()),
-        Node::Forall { forall } => make_live(alloc, terms, formulas.triggers_of(*forall)),
+        Node::Forall { forall } => make_live(graph, formulas.triggers_of(*forall)),
     }
 }
 
 /// Asserts a node by itself, where it is not asserted yet, and puts its conjuncts on the work list.
-fn assert_next(
-    alloc: Global,
-    terms: &mut GraphTerms,
+fn assert_next<G: AssertionGraph>(
+    graph: &mut G,
     formulas: &FormulaTable,
     asserted: &mut AssertedNodes,
     work: &mut Vec<u32>,
@@ -115,38 +123,40 @@ fn assert_next(
 ) -> Result<(), Memory>
     requires stands { n < length formulas.now.nodes }
     requires table { IsFormulaTable formulas.now }
-    requires terms { NodesStand (length (terms_of terms.old.standing)) formulas.now.nodes }
-    ensures ok { OnOk result (AssertsNext formulas.now n (held terms.old asserted.old) work.old.items (held terms.new asserted.new) work.new.items) }
-    ensures grows { HoldsMore (held terms.old asserted.old) (held terms.new asserted.new) }
+    requires terms { NodesStand (length (terms_of (G.state graph.old).standing)) formulas.now.nodes }
+    ensures ok { OnOk result (AssertsNext formulas.now n (held (G.state graph.old) asserted.old) work.old.items (held (G.state graph.new) asserted.new) work.new.items) }
+    ensures grows { HoldsMore (held (G.state graph.old) asserted.old) (held (G.state graph.new) asserted.new) }
+    ensures keeps { G.kept graph.old graph.new }
 {
     if asserted.has(n) {
         return Ok(());
     }
     let node = formulas.node(n);
     asserted.put(n)?;
-    do_operations(alloc, terms, formulas, node)?;
+    do_operations(graph, formulas, node)?;
     push_conjuncts(work, node)?;
     Ok(())
 }
 
-/// Asserts a node with all that it stands for. Without memory a part may be done.
-pub(crate) fn assert_node(
+/// Asserts a node with all that it stands for. After want of memory a part stands: more is asserted, and more operations stand.
+pub fn assert_node<G: AssertionGraph>(
     alloc: Global,
-    terms: &mut GraphTerms,
+    graph: &mut G,
     formulas: &FormulaTable,
     asserted: &mut AssertedNodes,
     root: u32,
 ) -> Result<(), Memory>
     requires stands { root < length formulas.now.nodes }
-    requires terms { NodesStand (length (terms_of terms.old.standing)) formulas.now.nodes }
-    ensures ok { OnOk result (Asserts formulas.now root (held terms.old asserted.old) (held terms.new asserted.new)) }
-    ensures grows { HoldsMore (held terms.old asserted.old) (held terms.new asserted.new) }
+    requires terms { NodesStand (length (terms_of (G.state graph.old).standing)) formulas.now.nodes }
+    ensures ok { OnOk result (Asserts formulas.now root (held (G.state graph.old) asserted.old) (held (G.state graph.new) asserted.new)) }
+    ensures grows { HoldsMore (held (G.state graph.old) asserted.old) (held (G.state graph.new) asserted.new) }
+    ensures keeps { G.kept graph.old graph.new }
 {
     let _count = formulas.len();
     let mut work = Vec::new(alloc);
     push_number(&mut work, root)?;
     while let Some(n) = work.pop() {
-        assert_next(alloc, terms, formulas, asserted, &mut work, n)?;
+        assert_next(graph, formulas, asserted, &mut work, n)?;
     }
     Ok(())
 }

@@ -8,7 +8,7 @@ use std::marker::Model;
 
 /// Numbers of nodes in the order in which they were asserted, each once. Contracts see a list.
 #[derive(Drop)]
-pub(crate) struct AssertedNodes {
+pub struct AssertedNodes {
     nodes: IndexSet<u32>,
 }
 
@@ -22,7 +22,7 @@ impl Model for AssertedNodes {
 
 impl AssertedNodes {
     /// None yet.
-    pub(crate) fn new(alloc: Global) -> AssertedNodes
+    pub fn new(alloc: Global) -> AssertedNodes
         ensures { result ≡ [] }
     {
         AssertedNodes {
@@ -31,21 +31,21 @@ impl AssertedNodes {
     }
 
     /// How many there are.
-    pub(crate) fn len(&self) -> usize
+    pub fn len(&self) -> usize
         ensures { result ≡ length self.now }
     {
         self.nodes.len()
     }
 
     /// Whether the node is asserted.
-    pub(crate) fn has(&self, n: u32) -> bool
+    pub fn has(&self, n: u32) -> bool
         ensures { IsTrue result ↔ Contains self.now n }
     {
         self.nodes.contains(&n)
     }
 
     /// Puts a node last.
-    pub(crate) fn put(&mut self, n: u32) -> Result<(), Memory>
+    pub fn put(&mut self, n: u32) -> Result<(), Memory>
         requires { Contains self.old n → ⊥ }
         ensures ok { OnOk result (self.new ≡ self.old ++ n ∷ []) }
         ensures err { OnErr result (self.new ≡ self.old) }
@@ -55,7 +55,7 @@ impl AssertedNodes {
     }
 
     /// Keeps the first ones.
-    pub(crate) fn keep_first(&mut self, count: usize)
+    pub fn keep_first(&mut self, count: usize)
         ensures { self.new ≡ take count self.old }
     {
         self.nodes.truncate(count);

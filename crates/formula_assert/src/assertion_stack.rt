@@ -7,12 +7,12 @@ ghost use Rattle.formula_assert.specs.Stands.{AreAssertions};
 
 use crate::assert_nodes::assert_node;
 use crate::asserted_nodes::AssertedNodes;
-use crate::graph_terms::GraphTerms;
+use crate::assertion_graph::AssertionGraph;
 use crate::level::Level;
-use em_outside::Limits;
+use crate::take_back::take_back_to;
 use formula_draft::Formula;
 use formula_table::{EnterFault, FormulaTable};
-use graph_meaning::{ClassGraph, Op};
+use graph_meaning::ClassGraph;
 use graph_terms::Memory;
 use match_graph::MatchingGraph;
 use std::alloc::Global;
@@ -25,7 +25,7 @@ const MOST_LEVELS: usize = 4_294_967_295;
 #[derive(Drop)]
 pub struct AssertionStack {
     alloc: Global,
-    terms: GraphTerms,
+    graph: MatchingGraph,
     formulas: FormulaTable,
     asserted: AssertedNodes,
     levels: Vec<Level>,
@@ -45,15 +45,15 @@ impl Model for AssertionStack {
 
 impl AssertionStack {
     /// Nothing is asserted. There may be so many terms, at least 2, and so many nodes.
-    pub fn new(alloc: Global, limits: &Limits) -> Result<AssertionStack, Memory>
-        requires { 2 ≤ limits.now.terms }
-        ensures { IfOk result (λ stack. stack ≡ no_assertions limits.now.terms limits.now.nodes) }
+    pub fn new(alloc: Global, terms: u32, nodes: u32) -> Result<AssertionStack, Memory>
+        requires { 2 ≤ terms }
+        ensures { IfOk result (λ stack. stack ≡ no_assertions terms nodes) }
     {
-        let terms = GraphTerms::new(alloc, limits.terms)?;
-        let formulas = FormulaTable::new(alloc, limits.nodes)?;
+        let graph = MatchingGraph::new(alloc, terms)?;
+        let formulas = FormulaTable::new(alloc, nodes)?;
         Ok(AssertionStack {
             alloc,
-            terms,
+            graph,
             formulas,
             asserted: AssertedNodes::new(alloc),
             levels: Vec::new(alloc),
@@ -66,7 +66,7 @@ impl AssertionStack {
         ensures rules { AreAssertions self.now }
     {
         let _nodes = self.formulas.len();
-        let _terms = self.terms.graph().len();
+        let _terms = self.graph.len();
         self.levels.len() as u32
     }
 
@@ -74,7 +74,7 @@ impl AssertionStack {
     pub fn graph(&self) -> &MatchingGraph
         ensures { result.now ≡ self.now.graph }
     {
-        self.terms.graph()
+        &self.graph
     }
 
     /// The table of the formulas.
@@ -87,24 +87,35 @@ impl AssertionStack {
     /// Enters the formula and then asserts its root.
     ///
     /// `TermsFull` comes exactly where the next term is new and as many stand as may, and `NodesFull` where all terms stand,
-    /// the next node is new and as many stand as may. Then the formulas and what is asserted are as before, and the terms
-    /// that were added stand. After `Memory` a part of the assertion may stand. Whatever is answered, the levels are as
-    /// before, and what came goes with the level that is open.
+    /// the next node is new and as many stand as may. After a refusal, `Memory` too, the formulas and what is asserted are as
+    /// before, and of the terms the first that were to come may stand. Whatever is answered, the levels are as before, and
+    /// what came goes with the level that is open.
     pub fn assert(&mut self, formula: &Formula) -> Result<(), EnterFault>
         ensures ok { OnOk result (AssertsFormula formula.now self.old self.new) }
         ensures fault { IfErr result (StopsAssert formula.now self.old self.new) }
         ensures levels { KeepsLevels self.old self.new }
     {
         let _formula = formula.root();
-        let root = self.formulas.enter(&mut self.terms, formula)?;
-        assert_node(
+        let nodes = self.formulas.len();
+        let foralls = self.formulas.foralls();
+        let asserted = self.asserted.len();
+        let root = self.formulas.enter(&mut self.graph, formula)?;
+        let version = self.graph.version();
+        match assert_node(
             self.alloc,
-            &mut self.terms,
+            &mut self.graph,
             &self.formulas,
             &mut self.asserted,
             root,
-        )?;
-        Ok(())
+        ) {
+            Ok(()) => Ok(()),
+            Err(_memory) => {
+                take_back_to(&mut self.graph, version);
+                self.formulas.cut(nodes, foralls);
+                self.asserted.keep_first(asserted);
+                Err(EnterFault::Memory)
+            }
+        }
     }
 
     /// Opens a level. Without memory all is as before.
@@ -121,7 +132,7 @@ impl AssertionStack {
             asserted: self.asserted.len(),
         };
         self.levels.reserve(1)?;
-        self.terms.apply(&Op::Push)?;
+        AssertionGraph::push(&mut self.graph)?;
         self.levels.push_reserved(level);
         Ok(())
     }
@@ -133,7 +144,7 @@ impl AssertionStack {
     {
         match self.levels.pop() {
             Some(level) => {
-                self.terms.pop();
+                MatchingGraph::pop(&mut self.graph);
                 self.formulas.cut(level.nodes, level.foralls);
                 self.asserted.keep_first(level.asserted);
             }

@@ -1,11 +1,13 @@
 //! The standing assertions of a script: a graph of terms, the table of formulas, which nodes are asserted, and levels.
 #![tactic(auto)]
 
-mod assert_nodes;
-mod asserted_nodes;
+pub mod assert_nodes;
+pub mod asserted_nodes;
+pub mod assertion_graph;
 pub mod assertion_stack;
-mod graph_terms;
 pub mod laws;
 mod level;
+mod take_back;
 
-pub use formula_assert::AssertionStack;
+pub use assertion_graph::AssertionGraph;
+pub use assertion_stack::AssertionStack;

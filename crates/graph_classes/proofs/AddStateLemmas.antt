@@ -1,7 +1,7 @@
 -- The parts of a graph once a row was added and listed.
-use Rattle.std.proofs.Common.{◌≡◌, ◌<◌, ◌⊎◌, inl, inr, ℕ, List, [], ◌∷◌, ◌++◌, length, Some, slice_get, slice_index, Contains, refl, sym, ◌∙◌, ap, subst, arith}
+use Rattle.std.proofs.Common.{◌≡◌, ◌<◌, ◌⊎◌, inl, inr, ℕ, List, [], ◌∷◌, ◌++◌, length, Some, slice_get, slice_index, Contains, refl, sym, ◌∙◌, ap, subst}
 use Rattle.graph_terms.specs.declared.term_row.TermRow.{TermRow}
-use Rattle.graph_terms.specs.Terms.{term_row, HasRow}
+use Rattle.graph_terms.specs.Terms.{HasRow}
 use Rattle.graph_classes.specs.declared.place.Place.{Place}
 use Rattle.graph_classes.specs.declared.place.Place.TheVariants.{Symbol, Member, Parent}
 use Rattle.graph_meaning.specs.declared.done.Done.{Done}

@@ -1,5 +1,5 @@
 -- The graph of true and false alone is in order.
-use Rattle.std.proofs.Common.{◌≡◌, ◌≢◌, ◌<◌, ◌≤◌, ◌⊎◌, inl, inr, ℕ, List, [], ◌∷◌, length, Some, None, slice_get, slice_index, Contains, zero, suc, refl, sym, ◌∙◌, ap, subst, arith}
+use Rattle.std.proofs.Common.{◌≡◌, ◌<◌, ◌≤◌, ◌⊎◌, inl, inr, ℕ, List, [], ◌∷◌, length, Some, None, slice_get, slice_index, Contains, zero, suc, refl, sym, ◌∙◌, ap, subst, arith}
 use Rattle.graph_terms.specs.declared.term_row.TermRow.{TermRow}
 use Rattle.graph_terms.specs.Terms.{term_row, first_rows, HasRow}
 use Rattle.graph_meaning.specs.LawfulLaws.{IsLawful-first}
@@ -12,11 +12,11 @@ use Rattle.graph_classes.specs.declared.place.Place.{Place}
 use Rattle.graph_classes.specs.declared.place.Place.TheVariants.{Symbol, Member, Parent}
 use Rattle.graph_classes.specs.State.{State, list_at}
 use Rattle.graph_classes.specs.First.{first_parts}
-use Rattle.graph_classes.specs.Closure.{IsSound, IsComplete, IsSigned, EntryIsSame}
+use Rattle.graph_classes.specs.Closure.{IsSigned, EntryIsSame}
 use Rattle.graph_classes.specs.Indexed.{IsIndexed, IsClosing}
-use Rattle.graph_classes.specs.Listed.{Belongs, IsRead, IsBeyond, AreListed, AreLed, IsListed, IsListing, ListsMore, IsMemberListed}
+use Rattle.graph_classes.specs.Listed.{Belongs, IsBeyond, AreListed, AreLed, IsListing, ListsMore, IsMemberListed}
 use Rattle.graph_classes.specs.Standing.{IsGood}
-use Rattle.graph_classes.proofs.Elements.{contains_none, contains_one, contains_first, contains_later, contains_cases}
+use Rattle.graph_classes.proofs.Elements.{contains_none, contains_one, contains_first, contains_cases}
 use Rattle.graph_classes.proofs.ListingLemmas.{ListsMore-trans, ListsMore-listing, IsMemberListed-more}
 use Rattle.graph_classes.proofs.StandingLemmas.{IsIndexed-others, IsClosing-others}
 

@@ -1,13 +1,12 @@
-use Rattle.std.proofs.Common.{◌≡◌, ◌<◌, ◌≤◌, ◌+◌, ◌⊎◌, inl, inr, ℕ, List, [], ◌∷◌, ◌++◌, length, Option, Some, None, map, nat_eq, slice_get, slice_index, Contains, refl, sym, ◌∙◌, ap, subst, arith, length-append}
+use Rattle.std.proofs.Common.{◌≡◌, ◌<◌, ◌≤◌, ◌⊎◌, inl, inr, ℕ, List, [], ◌∷◌, ◌++◌, length, Some, map, slice_get, slice_index, Contains, refl, sym, ◌∙◌, ap, subst, arith, length-append}
 use Rattle.std.proofs.lemmas.List.Elements.{Contains-append_left, Contains-push}
-use Rattle.std.proofs.lemmas.Option.{slice_get_within}
 use Rattle.std.proofs.lemmas.Grind.{common_steps}
 use Rattle.graph_terms.specs.declared.term_row.TermRow.{TermRow}
 use Rattle.graph_terms.specs.Terms.{term_row}
 use Rattle.graph_meaning.specs.Same.{Derives, DerivesEach, same_term, turned, joined, merged, congruent, none, more}
-use Rattle.graph_classes.specs.Closure.{signature, found, Respects, Joined, EntryIsSame, IsSound, IsSigned, IsComplete}
-use Rattle.graph_classes.proofs.Elements.{contains_none, contains_one, contains_first, contains_later, contains_cases, contains_push_cases, contains_found, found_push, found_new, slice_get_kept, slice_get_push_cases}
-use Rattle.graph_classes.proofs.StepLemmas.{Coarser, Joined-coarser, Joined-pair, Joined-labels}
+use Rattle.graph_classes.specs.Closure.{found, Joined, EntryIsSame, IsSound, IsComplete}
+use Rattle.graph_classes.proofs.Elements.{contains_none, contains_one, contains_first, contains_later, contains_push_cases, slice_get_kept, slice_get_push_cases}
+use Rattle.graph_classes.proofs.StepLemmas.{Joined-coarser, Joined-pair}
 
 -- what is derived stays so with more rows and more merges
 

@@ -1,4 +1,4 @@
-use Rattle.std.proofs.Common.{Result, true, nat_lt, if◌then◌else◌, Ok, Err, OnOk, OnErr, zero, suc, ◌≡◌, ◌≤◌, ◌<◌, ◌-◌, ℕ, List, [], ◌∷◌, ◌++◌, length, drop, take, slice_set, slice_index, slice_index_or, refl, sym, ◌∙◌, ap, arith, length-append}
+use Rattle.std.proofs.Common.{Result, true, nat_lt, if◌then◌else◌, Ok, Err, OnOk, OnErr, zero, suc, ◌≡◌, ◌≤◌, ◌<◌, ℕ, List, [], ◌∷◌, ◌++◌, length, drop, take, slice_set, slice_index_or, refl, sym, ◌∙◌, ap, arith, length-append}
 use Rattle.std.proofs.lemmas.Grind.{common_steps}
 use Rattle.std.proofs.lemmas.List.{drop-append-le, length-take, take-append-drop}
 use Rattle.graph_trail.specs.Undo.{state_before}
@@ -6,7 +6,7 @@ use Rattle.graph_classes.specs.declared.classes.Classes.{Classes}
 use Rattle.graph_classes.specs.declared.change.Change.{Change}
 use Rattle.graph_terms.specs.declared.term_row.TermRow.{TermRow}
 use Rattle.graph_classes.specs.declared.change.Change.TheVariants.{Added}
-use Rattle.graph_classes.specs.State.{State, state, before_change, shorter, fewer_rows, list_at, with_row}
+use Rattle.graph_classes.specs.State.{State, before_change, shorter, fewer_rows, list_at, with_row}
 use Rattle.graph_classes.specs.History.{now, notes, state_at, KeepsHistory}
 use Rattle.graph_classes.proofs.TableLemmas.{take_all_but_last}
 

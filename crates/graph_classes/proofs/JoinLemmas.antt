@@ -1,14 +1,10 @@
-use Rattle.std.proofs.Common.{◌≡◌, ◌≢◌, ◌<◌, ◌+◌, ◌⊎◌, inl, inr, ℕ, List, [], ◌∷◌, ◌++◌, length, Some, nat_eq, slice_get, slice_index, slice_set, Contains, Bool, true, false, refl, sym, ◌∙◌, ap, subst, arith, if◌then◌else◌}
-use Rattle.std.proofs.lemmas.Grind.{common_steps}
+use Rattle.std.proofs.Common.{◌≡◌, ◌≢◌, ◌<◌, ◌⊎◌, inl, inr, ℕ, List, [], ◌∷◌, ◌++◌, length, slice_get, slice_index, slice_set, Contains, refl, sym, ◌∙◌, ap, subst, if◌then◌else◌}
 use Rattle.std.proofs.lemmas.Bool.Decides.{eqb_tells}
 use Rattle.std.proofs.lemmas.List.{get_or-set_same, get_or-set_other, length-set}
 use Rattle.std.proofs.lemmas.List.Elements.{Contains-append_left, Contains-append_right, Contains-append_cases}
-use Rattle.graph_terms.specs.declared.term_row.TermRow.{TermRow}
-use Rattle.graph_terms.specs.Terms.{term_row}
 use Rattle.graph_meaning.specs.Same.{Derives, turned, joined}
 use Rattle.graph_classes.specs.State.{State, list_at}
-use Rattle.graph_classes.specs.Closure.{IsSound, IsComplete}
-use Rattle.graph_classes.specs.Indexed.{IsIndexed, IsSignable, IsRelabelled, IsClosing, HasUsesMoved, Between, written, moved}
+use Rattle.graph_classes.specs.Indexed.{IsIndexed, IsSignable, IsRelabelled, IsClosing, Between, written, moved}
 use Rattle.graph_classes.proofs.Elements.{contains_none, contains_first, contains_later, contains_cases}
 use Rattle.graph_classes.proofs.HistoryLemmas.{list_at-set}
 use Rattle.graph_classes.proofs.MoveLemmas.{length-written, list_at-other}

@@ -1,10 +1,10 @@
 -- The lists that questions read, as they grow.
-use Rattle.std.proofs.Common.{◌≡◌, ◌≢◌, ◌≤◌, ◌<◌, ◌+◌, ◌⊎◌, inl, inr, ℕ, List, [], ◌∷◌, ◌++◌, length, take, Some, slice_get, slice_index, slice_set, Contains, All, zero, suc, refl, sym, ◌∙◌, ap, subst, arith}
+use Rattle.std.proofs.Common.{◌≡◌, ◌<◌, ◌+◌, ◌⊎◌, inl, inr, ℕ, List, [], ◌∷◌, length, take, Some, slice_get, slice_index, Contains, All, zero, suc, refl, sym, ◌∙◌, ap, subst, arith}
 use Rattle.std.proofs.lemmas.Option.{slice_get_within}
 use Rattle.graph_terms.specs.declared.term_row.TermRow.{TermRow}
 use Rattle.graph_terms.specs.Terms.{term_row, HasRow, IsTable}
 use Rattle.graph_classes.specs.declared.place.Place.{Place}
-use Rattle.graph_classes.specs.declared.place.Place.TheVariants.{Symbol, Member, Parent}
+use Rattle.graph_classes.specs.declared.place.Place.TheVariants.{Member, Parent}
 use Rattle.graph_classes.specs.State.{State}
 use Rattle.graph_classes.proofs.Elements.{contains_none, contains_push_cases}
 use Rattle.graph_classes.proofs.MoveLemmas.{take_one_more}

@@ -1,9 +1,8 @@
 -- What a map of lists shows after a change of one list.
-use Rattle.std.proofs.Common.{◌≡◌, ◌≢◌, ◌≤◌, ◌<◌, ◌⊎◌, inl, inr, ℕ, List, [], ◌∷◌, ◌++◌, length, take, drop, insert, remove, Option, Some, None, Result, Ok, Err, OnErr, OnOk, IfOk, Bool, true, false, nat_eq, ◌&&◌, if◌then◌else◌, Contains, IsSome, refl, sym, ◌∙◌, ap, subst, arith, true≢false, zero, suc}
+use Rattle.std.proofs.Common.{◌≡◌, ◌≢◌, ◌≤◌, ◌⊎◌, inl, inr, ℕ, List, [], ◌∷◌, length, take, drop, insert, remove, Option, Some, None, Result, Ok, Err, OnErr, IfOk, Bool, true, false, if◌then◌else◌, Contains, refl, sym, ◌∙◌, ap, subst, arith, true≢false, zero, suc}
 use Rattle.std.specs.Map.{lookup}
 use Rattle.std.proofs.Math.Path.{fun_ext}
 use Rattle.std.proofs.lemmas.Grind.{common_steps}
-use Rattle.std.proofs.lemmas.Bool.Decides.{eqb_tells}
 use Rattle.std.proofs.lemmas.List.{take-append-drop}
 use Rattle.std.proofs.lemmas.List.Elements.{Contains-append_left, Contains-append_right, Contains-append_cases}
 use Rattle.graph_classes.specs.declared.place.Place.{Place}

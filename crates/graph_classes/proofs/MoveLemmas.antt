@@ -1,6 +1,6 @@
-use Rattle.std.proofs.Common.{◌≡◌, ◌≢◌, ◌≤◌, ◌<◌, ◌-◌, ◌+◌, ◌⊎◌, ℕ, List, [], ◌∷◌, ◌++◌, length, drop, take, slice_set, slice_index, slice_index_or, Contains, refl, sym, ◌∙◌, ap, subst, arith, zero, suc, append_assoc, length-append, add-one}
+use Rattle.std.proofs.Common.{◌≡◌, ◌≢◌, ◌<◌, ◌+◌, ℕ, List, [], ◌∷◌, ◌++◌, length, take, slice_set, slice_index, slice_index_or, Contains, refl, sym, ◌∙◌, ap, arith, zero, suc, append_assoc}
 use Rattle.std.proofs.lemmas.Grind.{common_steps}
-use Rattle.std.proofs.lemmas.List.{get_or-set_same, get_or-set_other, length-set}
+use Rattle.std.proofs.lemmas.List.{get_or-set_other, length-set}
 use Rattle.graph_classes.specs.State.{State, list_at}
 use Rattle.graph_classes.specs.Indexed.{written, moved}
 use Rattle.graph_classes.proofs.HistoryLemmas.{list_at-set, same_default}

@@ -1,12 +1,11 @@
 -- Operations on the parts of a graph.
-use Rattle.std.proofs.Common.{◌≡◌, ◌<◌, ◌≤◌, ℕ, List, [], ◌∷◌, ◌++◌, length, refl, sym, ◌∙◌, ap, subst, append-nil, Result, Ok, Err, OnOk, OnErr}
-use Rattle.graph_terms.specs.declared.term_row.TermRow.{TermRow}
+use Rattle.std.proofs.Common.{◌≡◌, ◌≤◌, ℕ, List, [], ◌∷◌, ◌++◌, length, refl, sym, ◌∙◌, ap, subst, append-nil, Result, Ok, Err, OnOk, OnErr}
 use Rattle.graph_meaning.specs.declared.done.Done.{Done}
 use Rattle.graph_meaning.specs.declared.op.Op.{Op}
 use Rattle.graph_meaning.specs.declared.op.Op.TheVariants.{Merge}
 use Rattle.graph_meaning.specs.Lawful.{Allows, IsLawful}
-use Rattle.graph_meaning.specs.LawfulLaws.{then_op, terms_of-push, merges_of-push, IsLawful-push}
-use Rattle.graph_meaning.specs.Standing.{terms_of, merges_of, rows_added, merges_added}
+use Rattle.graph_meaning.specs.LawfulLaws.{terms_of-push, merges_of-push, IsLawful-push}
+use Rattle.graph_meaning.specs.Standing.{then_op, terms_of, merges_of, rows_added, merges_added}
 use Rattle.graph_classes.specs.State.{State}
 use Rattle.graph_classes.specs.Indexed.{IsIndexed, IsClosing}
 use Rattle.graph_classes.specs.Listed.{IsListed}

@@ -1,15 +1,16 @@
-use Rattle.std.proofs.Common.{◌≡◌, ◌<◌, ℕ, List, [], ◌∷◌, ◌++◌, length, slice_index, sym, ap, subst, Contains}
+use Rattle.std.proofs.Common.{◌≡◌, ◌<◌, ℕ, List, [], ◌∷◌, ◌++◌, length, slice_index, sym, subst, Contains}
 use Rattle.std.proofs.lemmas.List.Elements.{Contains-append_left, Contains-push}
 use Rattle.graph_classes.specs.State.{State}
-use Rattle.graph_classes.specs.Indexed.{IsClosing, AreBelow}
+use Rattle.graph_classes.specs.Indexed.{IsClosing}
+use Rattle.graph_meaning.specs.Lawful.{EndsBelow}
 use Rattle.graph_classes.proofs.StepLemmas.{IsComplete-dropped}
 
 -- the pair that was taken off the end
-module _ (n : ℕ) (old new : List (ℕ × ℕ)) (a b : ℕ) (split : old ≡ new ++ (a, b) ∷ []) (below : AreBelow n old) where
+module _ (n : ℕ) (old new : List (ℕ × ℕ)) (a b : ℕ) (split : old ≡ new ++ (a, b) ∷ []) (below : EndsBelow old n) where
   pub last_in : (a < n) × (b < n)
   last_in = below a b (let P : List (ℕ × ℕ) → Type 0 = λ ps. Contains ps (a, b) in subst P (sym split) (Contains-push new (a, b)))
 
-  pub rest_in : AreBelow n new
+  pub rest_in : EndsBelow new n
   rest_in c d h = below c d (let P : List (ℕ × ℕ) → Type 0 = λ ps. Contains ps (c, d) in subst P (sym split) (Contains-append_left new ((a, b) ∷ []) (c, d) h))
 
 -- a pair of equal labels is done with

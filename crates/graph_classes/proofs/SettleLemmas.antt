@@ -1,10 +1,10 @@
 -- One step of the cascade.
-use Rattle.std.proofs.Common.{◌≡◌, ◌≢◌, ◌≤◌, ◌<◌, ◌⊎◌, inl, inr, ℕ, List, [], ◌∷◌, ◌++◌, length, slice_index, slice_index_or, refl, sym, ◌∙◌, ap, subst, arith}
+use Rattle.std.proofs.Common.{◌≡◌, ◌≢◌, ◌≤◌, ◌<◌, ◌⊎◌, inl, inr, ℕ, List, [], ◌∷◌, ◌++◌, length, slice_index, slice_index_or, sym, ◌∙◌, ap, subst, arith}
 use Rattle.graph_meaning.specs.declared.union.Union.{Union}
 use Rattle.graph_classes.specs.State.{State}
-use Rattle.graph_classes.specs.Indexed.{IsIndexed, IsRelabelled, Between, HaveOneLabel, own_from}
+use Rattle.graph_classes.specs.Indexed.{IsIndexed, IsRelabelled, HaveOneLabel, own_from}
 use Rattle.graph_classes.specs.Listed.{IsListed, IsOwn}
-use Rattle.graph_classes.specs.Unions.{AreUnions, union_of}
+use Rattle.graph_meaning.specs.Unions.{AreUnions, union_of}
 use Rattle.graph_classes.proofs.MoveLemmas.{read_is}
 use Rattle.graph_classes.proofs.UnionLemmas.{one_more_union}
 use Rattle.graph_classes.proofs.MeasureLemmas.{own_fewer-relabelled}
@@ -18,7 +18,7 @@ own_label s t label indexed h read =
 
 module _ (s : State) (new : List ℕ) (left right : ℕ) (indexed : IsIndexed s) (left_own : IsOwn s.labels left) (right_own : IsOwn s.labels right) (apart : left ≢ right)
     (relabelled : IsRelabelled s.labels new left right ⊎ IsRelabelled s.labels new right left) where
-  module _ (first : List ℕ) (unions : List Union) (right_listed : IsListed s) (are : AreUnions (HaveOneLabel (length s.rows) first) (HaveOneLabel (length s.rows) s.labels) unions) where
+  module _ (first : List ℕ) (unions : List Union) (right_listed : IsListed s) (are : AreUnions (length s.rows) (HaveOneLabel (length s.rows) first) (HaveOneLabel (length s.rows) s.labels) unions) where
     leader_in : (l : ℕ) → IsOwn s.labels l → slice_index s.leaders l < length s.rows
     leader_in l own = rw (← indexed.labels_len) (right_listed.leaders.is_term l own)
 
@@ -28,7 +28,7 @@ module _ (s : State) (new : List ℕ) (left right : ℕ) (indexed : IsIndexed s)
         let same : slice_index s.leaders l ≡ slice_index s.leaders (slice_index s.labels t) = ap (slice_index s.leaders) (sym (right_listed.leaders.own l own) ∙ e) in
         omega arith
 
-    pub unions_step : AreUnions (HaveOneLabel (length s.rows) first) (HaveOneLabel (length s.rows) new) (unions ++ union_of (slice_index s.leaders left) (slice_index s.leaders right) ∷ [])
+    pub unions_step : AreUnions (length s.rows) (HaveOneLabel (length s.rows) first) (HaveOneLabel (length s.rows) new) (unions ++ union_of (slice_index s.leaders left) (slice_index s.leaders right) ∷ [])
     unions_step = elim relabelled [
       | inl goes_right ↦ one_more_union (length s.rows) first s.labels new unions (slice_index s.leaders left) (slice_index s.leaders right) left right indexed.labels_len (leader_in left left_own) (leader_in right right_own) apart
           (inl (right_listed.leaders.own left left_own, right_listed.leaders.own right right_own)) goes_right (least left left_own) (least right right_own) are

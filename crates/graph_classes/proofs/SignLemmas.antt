@@ -1,11 +1,11 @@
-use Rattle.std.proofs.Common.{◌≡◌, ◌<◌, ◌+◌, ◌⊎◌, inl, inr, ℕ, List, [], ◌∷◌, ◌++◌, length, Option, Some, None, map, nat_eq, slice_get, slice_index, Contains, refl, sym, ◌∙◌, ap, subst, arith}
+use Rattle.std.proofs.Common.{◌≡◌, ◌<◌, inl, inr, ℕ, List, [], ◌∷◌, ◌++◌, length, Some, None, map, slice_get, slice_index, Contains, refl, sym, ◌∙◌, ap, subst}
 use Rattle.std.proofs.lemmas.List.Elements.{Contains-append_left, Contains-push}
 use Rattle.graph_terms.specs.declared.term_row.TermRow.{TermRow}
 use Rattle.graph_terms.specs.Terms.{term_row}
 use Rattle.graph_meaning.specs.Same.{Derives, DerivesEach, turned, joined, congruent, none, more}
-use Rattle.graph_classes.specs.Closure.{signature, found, Respects, Joined, EntryIsSame, IsSound, IsSigned, IsComplete}
-use Rattle.graph_classes.proofs.Elements.{contains_none, contains_one, contains_first, contains_later, contains_cases, contains_push_cases, contains_found, found_push, found_new}
-use Rattle.graph_classes.proofs.StepLemmas.{Coarser, Joined-coarser, Joined-pair, Joined-labels}
+use Rattle.graph_classes.specs.Closure.{signature, found, Joined, EntryIsSame, IsSound, IsSigned, IsComplete}
+use Rattle.graph_classes.proofs.Elements.{contains_first, contains_later, contains_cases, contains_push_cases, contains_found, found_push, found_new}
+use Rattle.graph_classes.proofs.StepLemmas.{Joined-coarser, Joined-pair}
 
 module _ (rows : List TermRow) (merges : List (ℕ × ℕ)) where
   DerivesEach-sym : (ss ts : List ℕ) → DerivesEach rows merges ss ts → DerivesEach rows merges ts ss

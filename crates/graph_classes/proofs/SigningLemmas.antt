@@ -1,8 +1,9 @@
-use Rattle.std.proofs.Common.{◌≡◌, ◌<◌, ◌+◌, ◌⊎◌, inl, inr, ℕ, List, [], ◌∷◌, ◌++◌, length, Option, Some, None, Result, Ok, Err, is_ok, is_err, false, OnOk, OnErr, IfOk, slice_get, Contains, refl, sym, ◌∙◌, ap, subst, arith, if◌then◌else◌}
+use Rattle.std.proofs.Common.{◌≡◌, ◌<◌, inl, inr, ℕ, List, [], ◌∷◌, ◌++◌, length, Some, None, Result, Ok, Err, is_ok, is_err, false, OnOk, OnErr, IfOk, slice_get, ap, if◌then◌else◌}
 use Rattle.graph_terms.specs.declared.term_row.TermRow.{TermRow}
-use Rattle.graph_classes.specs.Closure.{signature, found, IsSound, IsComplete}
-use Rattle.graph_classes.specs.State.{State, list_at}
-use Rattle.graph_classes.specs.Indexed.{IsSignable, IsClosing, AreBelow}
+use Rattle.graph_classes.specs.Closure.{signature, found}
+use Rattle.graph_classes.specs.State.{State}
+use Rattle.graph_classes.specs.Indexed.{IsSignable, IsClosing}
+use Rattle.graph_meaning.specs.Lawful.{EndsBelow}
 use Rattle.graph_classes.proofs.Elements.{contains_found, contains_push_cases}
 use Rattle.graph_classes.proofs.SignLemmas.{IsSound-found, IsComplete-found, IsSound-new, IsComplete-new}
 
@@ -26,8 +27,8 @@ pub pushed_items : {A X E : Type 0} (r : Result X E) (new pushed otherwise : Lis
 pushed_items (Ok x) new pushed otherwise ok e = e
 pushed_items (Err x) new pushed otherwise ok e = cc
 
-pub AreBelow-push : (n : ℕ) (pairs : List (ℕ × ℕ)) (u v : ℕ) → AreBelow n pairs → u < n → v < n → AreBelow n (pairs ++ (u, v) ∷ [])
-AreBelow-push n pairs u v below hu hv a b c = elim (contains_push_cases pairs (u, v) (a, b) c) [
+pub EndsBelow-push : (n : ℕ) (pairs : List (ℕ × ℕ)) (u v : ℕ) → EndsBelow pairs n → u < n → v < n → EndsBelow (pairs ++ (u, v) ∷ []) n
+EndsBelow-push n pairs u v below hu hv a b c = elim (contains_push_cases pairs (u, v) (a, b) c) [
   | inl earlier ↦ below a b earlier
   | inr last ↦ (rw (ap (λ (p : ℕ × ℕ). p.0) last) hu, rw (ap (λ (p : ℕ × ℕ). p.1) last) hv)
 ]

@@ -1,5 +1,5 @@
 -- What the operations that stand have to do with the classes.
-use Rattle.std.proofs.Common.{◌≡◌, ◌<◌, ℕ, List, [], ◌∷◌, ◌++◌, length, slice_index, ap, sym, subst, ◌∙◌}
+use Rattle.std.proofs.Common.{◌≡◌, ℕ, List, [], ◌∷◌, ◌++◌, sym, subst}
 use Rattle.graph_meaning.specs.declared.done.Done.{Done}
 use Rattle.graph_classes.specs.declared.place.Place.{Place}
 use Rattle.graph_classes.specs.State.{State}

@@ -1,13 +1,10 @@
-use Rattle.std.proofs.Common.{◌≡◌, ◌<◌, ◌+◌, ◌⊎◌, inl, inr, ℕ, List, [], ◌∷◌, ◌++◌, length, Option, Some, None, map, nat_eq, slice_get, slice_index, Contains, cond, Bool, true, false, refl, sym, ◌∙◌, ap, subst, arith, if◌then◌else◌}
+use Rattle.std.proofs.Common.{◌≡◌, ◌<◌, ◌⊎◌, inl, inr, ℕ, List, [], ◌∷◌, ◌++◌, length, Some, map, nat_eq, slice_get, slice_index, Contains, true, false, refl, sym, ◌∙◌, ap, subst, if◌then◌else◌}
 use Rattle.std.proofs.lemmas.Bool.{eqb-true, eq-eqb}
-use Rattle.std.proofs.lemmas.Grind.{common_steps}
-use Rattle.std.proofs.lemmas.List.Elements.{Contains-append_left, Contains-append_right, Contains-append_cases, Contains-push}
 use Rattle.graph_terms.specs.declared.term_row.TermRow.{TermRow}
-use Rattle.graph_terms.specs.Terms.{term_row}
 use Rattle.graph_meaning.specs.Same.{Derives, joined}
-use Rattle.graph_classes.specs.Closure.{signature, found, Respects, Joined, EntryIsSame, IsSound, IsSigned, IsComplete}
+use Rattle.graph_classes.specs.Closure.{found, Joined, IsSound, IsComplete}
 use Rattle.graph_classes.specs.Indexed.{IsRelabelled}
-use Rattle.graph_classes.proofs.Elements.{contains_none, contains_one, contains_first, contains_later, contains_cases, contains_push_cases, contains_found, found_push, found_new}
+use Rattle.graph_classes.proofs.Elements.{contains_none, contains_first, contains_later, contains_push_cases}
 
 -- terms with equal labels keep equal labels
 abbrev pub Coarser : ℕ → List ℕ → List ℕ → Type 0

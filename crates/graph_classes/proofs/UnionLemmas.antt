@@ -1,11 +1,11 @@
 -- The unions that a cascade lists.
-use Rattle.std.proofs.Common.{◌≡◌, ◌≢◌, ◌<◌, ◌≤◌, ◌⊎◌, inl, inr, ℕ, List, [], ◌∷◌, ◌++◌, length, take, Some, None, slice_get, slice_index, Contains, refl, sym, ◌∙◌, ap, subst, arith}
+use Rattle.std.proofs.Common.{◌≡◌, ◌≢◌, ◌<◌, ◌≤◌, inl, inr, ℕ, List, [], ◌∷◌, ◌++◌, length, take, Some, None, slice_get, slice_index, sym, ◌∙◌, ap, subst, arith}
 use Rattle.std.proofs.lemmas.Grind.{common_steps}
 use Rattle.std.proofs.lemmas.List.Elements.{Contains-append_left, Contains-push}
 use Rattle.std.proofs.lemmas.Option.{slice_get_within}
 use Rattle.graph_meaning.specs.declared.union.Union.{Union}
 use Rattle.graph_classes.specs.Indexed.{IsRelabelled, Between, HaveOneLabel}
-use Rattle.graph_classes.specs.Unions.{AreUnions, Generated, Leads, union_of, was, listed, turned, joined}
+use Rattle.graph_meaning.specs.Unions.{AreUnions, Generated, Leads, union_of, was, listed, turned, joined}
 use Rattle.graph_classes.proofs.Elements.{contains_none, contains_push_cases, slice_get_push_cases}
 use Rattle.graph_classes.proofs.StepLemmas.{taken, kept, taken_or_kept, Coarser-relabelled}
 
@@ -19,8 +19,8 @@ no_entry : (k : ℕ) (u : Union) → slice_get {X = Union} [] k ≡ Some u → �
 no_entry k u e = let h : None ≡ Some u = e in cc
 
 -- with no union, the classes are the old ones
-pub no_unions : (n : ℕ) (labels : List ℕ) → AreUnions (HaveOneLabel n labels) (HaveOneLabel n labels) []
-no_unions n labels = record { generated = λ s t h. was h; held = held; led = λ k u e. absurd (no_entry k u e); apart = λ k u e g. absurd (no_entry k u e) }
+pub no_unions : (n : ℕ) (labels : List ℕ) → AreUnions n (HaveOneLabel n labels) (HaveOneLabel n labels) []
+no_unions n labels = record { generated = λ s t h. was h; held = held; below = λ k u e. absurd (no_entry k u e); led = λ k u e. absurd (no_entry k u e); apart = λ k u e g. absurd (no_entry k u e) }
   where
     held : (s t : ℕ) → Generated (HaveOneLabel n labels) [] s t → HaveOneLabel n labels s t
     held s t (was h) = h
@@ -36,7 +36,7 @@ more_unions old unions u s t (joined {t = m} g h) = joined (more_unions old unio
 
 -- one more union, of the leaders of two labels
 module _ (n : ℕ) (first old new : List ℕ) (unions : List Union) (a b from into : ℕ) (len : length old ≡ n) (ha : a < n) (hb : b < n) (apart : from ≢ into) (ends : Between old a b from into) (relabelled : IsRelabelled old new from into)
-    (least_a : (t : ℕ) → t < n → slice_index old a ≡ slice_index old t → a ≤ t) (least_b : (t : ℕ) → t < n → slice_index old b ≡ slice_index old t → b ≤ t) (are : AreUnions (HaveOneLabel n first) (HaveOneLabel n old) unions) where
+    (least_a : (t : ℕ) → t < n → slice_index old a ≡ slice_index old t → a ≤ t) (least_b : (t : ℕ) → t < n → slice_index old b ≡ slice_index old t → b ≤ t) (are : AreUnions n (HaveOneLabel n first) (HaveOneLabel n old) unions) where
   above : (t : ℕ) → t < n → t < length old
   above t h = rw len h
 
@@ -124,5 +124,11 @@ module _ (n : ℕ) (first old new : List ℕ) (unions : List Union) (a b from in
         subst P (sym (ap (λ j. take j (unions ++ union_of a b ∷ [])) end.0 ∙ take_last)) (subst Q (sym end.1) apart_last)
   ]
 
-  pub one_more_union : AreUnions (HaveOneLabel n first) (HaveOneLabel n new) (unions ++ union_of a b ∷ [])
-  one_more_union = record { generated = generated; held = held; led = led; apart = all_apart }
+  all_below : (k : ℕ) (u : Union) → slice_get (unions ++ union_of a b ∷ []) k ≡ Some u → (u.left < n) × (u.right < n)
+  all_below k u is = elim (slice_get_push_cases unions (union_of a b) k u is) [
+    | inl earlier ↦ are.below k u earlier
+    | inr end ↦ let P : Union → Type 0 = λ v. (v.left < n) × (v.right < n) in subst P (sym end.1) (ha, hb)
+  ]
+
+  pub one_more_union : AreUnions n (HaveOneLabel n first) (HaveOneLabel n new) (unions ++ union_of a b ∷ [])
+  one_more_union = record { generated = generated; held = held; below = all_below; led = led; apart = all_apart }

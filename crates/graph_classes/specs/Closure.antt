@@ -1,10 +1,8 @@
 -- The closure of the merges, in labels and signatures.
-use Rattle.std.specs.Prelude.{◌≡◌, ◌<◌, ◌⊎◌, ℕ, List, [], ◌∷◌, length, Option, Some, None, map, nat_eq, slice_get, slice_index, Contains, if◌then◌else◌}
-use Rattle.std.specs.Cmp.Lexicographic.{pointwise}
+use Rattle.std.specs.Prelude.{◌≡◌, ◌<◌, ◌⊎◌, ℕ, List, ◌∷◌, length, Some, map, slice_get, slice_index, Contains}
 use Rattle.graph_terms.specs.declared.term_row.TermRow.{TermRow}
 pub use Rattle.graph_classes.specs.Table.{found}
-use Rattle.graph_meaning.specs.Same.{Derives, DerivesEach, same_term, turned, joined, merged, congruent, none, more}
-use Rattle.graph_terms.specs.Terms.{term_row}
+use Rattle.graph_meaning.specs.Same.{Derives, DerivesEach}
 
 -- a term's symbol, with the labels of its arguments
 abbrev pub signature : List ℕ → TermRow → List ℕ

@@ -4,10 +4,6 @@ use Rattle.graph_terms.specs.declared.term_row.TermRow.{TermRow}
 use Rattle.graph_classes.specs.Closure.{IsSound, IsComplete}
 use Rattle.graph_classes.specs.State.{State, list_at}
 
--- both terms of each pair are among the first n
-abbrev pub AreBelow : ℕ → List (ℕ × ℕ) → Type 0
-AreBelow n pairs = (a b : ℕ) → Contains pairs (a, b) → (a < n) × (b < n)
-
 -- what signing needs: each term has a label, arguments and entries are terms
 pub record IsSignable (s : State) : Type 0 where
   pub labels_len : length s.labels ≡ length s.rows

@@ -8,5 +8,4 @@ pub mod History
 pub mod Indexed
 pub mod Listed
 pub mod Standing
-pub mod Unions
 pub mod First

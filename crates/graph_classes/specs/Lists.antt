@@ -1,8 +1,7 @@
 -- The lists of terms, each under its place.
-use Rattle.std.specs.Prelude.{◌≡◌, ℕ, List, [], Option, Some, None, Bool, true, false, nat_eq, ◌&&◌, if◌then◌else◌, Contains, MatchOption, ◌≤◌, length, insert, remove}
+use Rattle.std.specs.Prelude.{◌≡◌, ℕ, List, Option, Bool, false, nat_eq, ◌&&◌, if◌then◌else◌, Contains, MatchOption, ◌≤◌, length, insert}
 use Rattle.graph_classes.specs.declared.place.Place.{Place}
 use Rattle.graph_classes.specs.declared.place.Place.TheVariants.{Symbol, Member, Parent}
-use Rattle.graph_classes.specs.Rising.{Enters}
 
 -- whether the two places are one
 abbrev pub same_place : Place → Place → Bool

@@ -1,11 +1,7 @@
 -- When the parts of a graph are in order, and what an operation does to them.
-use Rattle.std.specs.Prelude.{◌≡◌, ◌<◌, ◌≤◌, ℕ, List, [], ◌∷◌, ◌++◌, length, slice_index, Contains}
-use Rattle.graph_terms.specs.declared.term_row.TermRow.{TermRow}
-use Rattle.graph_meaning.specs.declared.done.Done.{Done}
-use Rattle.graph_terms.specs.Terms.{IsTable}
+use Rattle.std.specs.Prelude.{◌≡◌, ◌≤◌, ℕ, [], ◌++◌, length}
 use Rattle.graph_meaning.specs.declared.op.Op.{Op}
-use Rattle.graph_meaning.specs.Standing.{terms_of, merges_of, rows_added}
-use Rattle.graph_meaning.specs.LawfulLaws.{then_op}
+use Rattle.graph_meaning.specs.Standing.{terms_of, merges_of, rows_added, then_op}
 use Rattle.graph_meaning.specs.Lawful.{IsLawful}
 use Rattle.graph_classes.specs.State.{State}
 use Rattle.graph_classes.specs.Indexed.{IsIndexed, IsClosing}

@@ -1,5 +1,5 @@
 -- What the parts of a graph hold, and what undoes a change of it.
-use Rattle.std.specs.Prelude.{◌≡◌, ◌<◌, ◌-◌, ℕ, List, [], ◌∷◌, ◌++◌, length, take, map, slice_index_or, slice_set, remove, nat_lt, if◌then◌else◌}
+use Rattle.std.specs.Prelude.{◌≡◌, ◌-◌, ℕ, List, [], ◌∷◌, ◌++◌, length, take, slice_index_or, slice_set, remove, nat_lt, if◌then◌else◌}
 use Rattle.graph_terms.specs.declared.term_row.TermRow.{TermRow}
 use Rattle.graph_meaning.specs.declared.done.Done.{Done}
 use Rattle.graph_classes.specs.declared.place.Place.{Place}

@@ -1,14 +1,14 @@
 //! The operation Add.
 ghost use Rattle.std.specs.Prelude.{◌≡◌, ◌<◌, ◌≤◌, ◌+◌, ◌^◌, ◌++◌, ◌∷◌, ℕ, List, [], length, All, OnOk, OnErr, IfOk, IsTrue, Contains, slice_index, vec_len};
 ghost use Rattle.std.specs.Vec.{vec_capacity};
-ghost use Rattle.graph_terms.specs.Terms.{term_row, IsAbsent};
+ghost use Rattle.graph_terms.specs.Terms.{most_args, term_row, IsAbsent};
 ghost use Rattle.graph_meaning.specs.Lawful.{Allows};
 ghost use Rattle.graph_meaning.specs.declared.op.Op.TheVariants.{Add as AddOp};
 ghost use Rattle.graph_classes.specs.State.{with_row};
 ghost use Rattle.graph_classes.specs.History.{now, notes, KeepsHistory};
 ghost use Rattle.graph_classes.specs.Indexed.{used, HaveOneLabel};
 ghost use Rattle.graph_classes.specs.Standing.{IsGood, Follows};
-ghost use Rattle.graph_classes.specs.Unions.{AreUnions};
+ghost use Rattle.graph_meaning.specs.Unions.{AreUnions};
 
 use crate::added::Added;
 use crate::change::Change;
@@ -39,7 +39,7 @@ impl Classes {
     /// Adds a new row that is alone in its class, and is used nowhere yet.
     fn add_row(&mut self, alloc: Global, symbol: u32, args: &[u32]) -> Result<u32, TableFault>
         requires terms { All (λ arg. arg < length self.old.parts.rows.rows) args.now }
-        requires few { length args.now ≤ 255 }
+        requires few { length args.now ≤ most_args }
         requires new_row { IsAbsent self.old.parts.rows.rows (term_row symbol args.now) }
         ensures term { IfOk result (λ term. term ≡ length self.old.parts.rows.rows) }
         ensures ok { IfOk result (λ term. now self.new ≡ with_row (now self.old) (term_row symbol args.now) term) }
@@ -88,7 +88,7 @@ impl Classes {
         ensures fresh { IfOk result (λ added. IsTrue added.fresh) }
         ensures ok { OnOk result (Follows (now self.old) (now self.new) serial (AddOp symbol args.now)) }
         ensures good { OnOk result (IsGood (now self.new)) }
-        ensures unions { IfOk result (λ added. AreUnions (HaveOneLabel (length self.new.parts.rows.rows) (self.old.parts.labels.items ++ length self.old.parts.rows.rows ∷ [])) (HaveOneLabel (length self.new.parts.rows.rows) self.new.parts.labels.items) added.unions) }
+        ensures unions { IfOk result (λ added. AreUnions (length self.new.parts.rows.rows) (HaveOneLabel (length self.new.parts.rows.rows) (self.old.parts.labels.items ++ length self.old.parts.rows.rows ∷ [])) (HaveOneLabel (length self.new.parts.rows.rows) self.new.parts.labels.items) added.unions) }
         ensures full { result ≡ Err TableFault.Full → length self.old.parts.rows.rows ≡ self.old.parts.rows.limit }
         ensures history { KeepsHistory self.old self.new }
     {
@@ -105,6 +105,7 @@ impl Classes {
         self.list_parents(term)?;
         let mut pending = Vec::new(alloc);
         self.sign(alloc, &mut pending, term)?;
+        // Asking for the number of terms tells the proof that the table keeps its limit, which is below 2^32.
         let _terms = self.parts.rows.len();
         let unions = self.settle(alloc, &mut pending)?;
         Ok(Added {
@@ -128,7 +129,7 @@ impl Classes {
         ensures fresh { IfOk result (λ added. IsTrue added.fresh) }
         ensures ok { OnOk result (Follows (now self.old) (now self.new) serial (AddOp symbol args.now)) }
         ensures good { IsGood (now self.new) }
-        ensures unions { IfOk result (λ added. AreUnions (HaveOneLabel (length self.new.parts.rows.rows) (self.old.parts.labels.items ++ length self.old.parts.rows.rows ∷ [])) (HaveOneLabel (length self.new.parts.rows.rows) self.new.parts.labels.items) added.unions) }
+        ensures unions { IfOk result (λ added. AreUnions (length self.new.parts.rows.rows) (HaveOneLabel (length self.new.parts.rows.rows) (self.old.parts.labels.items ++ length self.old.parts.rows.rows ∷ [])) (HaveOneLabel (length self.new.parts.rows.rows) self.new.parts.labels.items) added.unions) }
         ensures full { result ≡ Err TableFault.Full → length self.old.parts.rows.rows ≡ self.old.parts.rows.limit }
         ensures err { OnErr result (now self.new ≡ now self.old) }
         ensures history { KeepsHistory self.old self.new }

@@ -17,7 +17,9 @@ use graph_trail::{Trail, Undoable};
 /// The parts of a graph with the trail of their changes.
 #[derive(Drop)]
 pub struct Classes {
+    /// What the graph has now.
     pub parts: Parts,
+    /// What undoes each change of the parts, the last change last.
     pub trail: Trail<Parts>,
 }
 

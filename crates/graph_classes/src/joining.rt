@@ -3,7 +3,8 @@ ghost use Rattle.std.specs.Prelude.{◌≡◌, ◌<◌, ◌++◌, ◌∷◌, ◌
 ghost use Rattle.graph_classes.specs.State.{list_at};
 ghost use Rattle.graph_classes.specs.History.{now, KeepsHistory};
 ghost use Rattle.graph_classes.specs.Listed.{IsListed};
-ghost use Rattle.graph_classes.specs.Indexed.{IsIndexed, IsRelabelled, IsClosing, AreBelow, Between};
+ghost use Rattle.graph_classes.specs.Indexed.{IsIndexed, IsRelabelled, IsClosing, Between};
+ghost use Rattle.graph_meaning.specs.Lawful.{EndsBelow};
 
 use crate::classes::Classes;
 use graph_terms::Memory;
@@ -24,13 +25,13 @@ impl Classes {
         requires from_own { slice_index self.old.parts.labels.items from ≡ from }
         requires into_own { slice_index self.old.parts.labels.items into ≡ into }
         requires apart { from ≢ into }
-        requires pending_in { AreBelow (length self.old.parts.rows.rows) pending.old.items }
+        requires pending_in { EndsBelow pending.old.items (length self.old.parts.rows.rows) }
         ensures rows { OnOk result (self.new.parts.rows.rows ≡ self.old.parts.rows.rows) }
         ensures log { OnOk result (self.new.parts.log ≡ self.old.parts.log) }
         ensures limit { OnOk result (self.new.parts.rows.limit ≡ self.old.parts.rows.limit) }
         ensures relabelled { OnOk result (IsRelabelled self.old.parts.labels.items self.new.parts.labels.items from into) }
         ensures indexed { OnOk result (IsIndexed (now self.new)) }
-        ensures pending_in { OnOk result (AreBelow (length self.old.parts.rows.rows) pending.new.items) }
+        ensures pending_in { OnOk result (EndsBelow pending.new.items (length self.old.parts.rows.rows)) }
         ensures closing { OnOk result ((merges : List (ℕ × ℕ)) (a b : ℕ) → a < length self.old.parts.rows.rows → b < length self.old.parts.rows.rows →
             Between self.old.parts.labels.items a b from into →
             IsClosing merges (now self.old) (pending.old.items ++ (a, b) ∷ []) [] → IsClosing merges (now self.new) pending.new.items []) }
@@ -60,14 +61,14 @@ impl Classes {
         requires from_own { slice_index self.old.parts.labels.items from ≡ from }
         requires into_own { slice_index self.old.parts.labels.items into ≡ into }
         requires apart { from ≢ into }
-        requires pending_in { AreBelow (length self.old.parts.rows.rows) pending.old.items }
+        requires pending_in { EndsBelow pending.old.items (length self.old.parts.rows.rows) }
         ensures rows { OnOk result (self.new.parts.rows.rows ≡ self.old.parts.rows.rows) }
         ensures log { OnOk result (self.new.parts.log ≡ self.old.parts.log) }
         ensures limit { OnOk result (self.new.parts.rows.limit ≡ self.old.parts.rows.limit) }
         ensures relabelled { OnOk result (IsRelabelled self.old.parts.labels.items self.new.parts.labels.items from into) }
         ensures indexed { OnOk result (IsIndexed (now self.new)) }
         ensures listed { OnOk result (IsListed (now self.new)) }
-        ensures pending_in { OnOk result (AreBelow (length self.old.parts.rows.rows) pending.new.items) }
+        ensures pending_in { OnOk result (EndsBelow pending.new.items (length self.old.parts.rows.rows)) }
         ensures closing { OnOk result ((merges : List (ℕ × ℕ)) (a b : ℕ) → a < length self.old.parts.rows.rows → b < length self.old.parts.rows.rows →
             Between self.old.parts.labels.items a b from into →
             IsClosing merges (now self.old) (pending.old.items ++ (a, b) ∷ []) [] → IsClosing merges (now self.new) pending.new.items []) }
@@ -93,14 +94,14 @@ impl Classes {
         requires left_own { slice_index self.old.parts.labels.items left ≡ left }
         requires right_own { slice_index self.old.parts.labels.items right ≡ right }
         requires apart { left ≢ right }
-        requires pending_in { AreBelow (length self.old.parts.rows.rows) pending.old.items }
+        requires pending_in { EndsBelow pending.old.items (length self.old.parts.rows.rows) }
         ensures rows { OnOk result (self.new.parts.rows.rows ≡ self.old.parts.rows.rows) }
         ensures log { OnOk result (self.new.parts.log ≡ self.old.parts.log) }
         ensures limit { OnOk result (self.new.parts.rows.limit ≡ self.old.parts.rows.limit) }
         ensures relabelled { OnOk result (IsRelabelled self.old.parts.labels.items self.new.parts.labels.items left right ⊎ IsRelabelled self.old.parts.labels.items self.new.parts.labels.items right left) }
         ensures indexed { OnOk result (IsIndexed (now self.new)) }
         ensures listed { OnOk result (IsListed (now self.new)) }
-        ensures pending_in { OnOk result (AreBelow (length self.old.parts.rows.rows) pending.new.items) }
+        ensures pending_in { OnOk result (EndsBelow pending.new.items (length self.old.parts.rows.rows)) }
         ensures closing { OnOk result ((merges : List (ℕ × ℕ)) (a b : ℕ) → a < length self.old.parts.rows.rows → b < length self.old.parts.rows.rows →
             slice_index self.old.parts.labels.items a ≡ left → slice_index self.old.parts.labels.items b ≡ right →
             IsClosing merges (now self.old) (pending.old.items ++ (a, b) ∷ []) [] → IsClosing merges (now self.new) pending.new.items []) }

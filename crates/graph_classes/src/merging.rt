@@ -6,7 +6,7 @@ ghost use Rattle.graph_meaning.specs.Standing.{rows_added, merges_added};
 ghost use Rattle.graph_classes.specs.History.{now, KeepsHistory};
 ghost use Rattle.graph_classes.specs.Indexed.{HaveOneLabel};
 ghost use Rattle.graph_classes.specs.Standing.{IsGood, Follows};
-ghost use Rattle.graph_classes.specs.Unions.{AreUnions};
+ghost use Rattle.graph_meaning.specs.Unions.{AreUnions};
 
 use crate::classes::Classes;
 use crate::unions::Unions;
@@ -42,7 +42,7 @@ impl Classes {
         requires right_in { right < length self.old.parts.rows.rows }
         ensures ok { OnOk result (Follows (now self.old) (now self.new) serial (MergeOp left right)) }
         ensures good { OnOk result (IsGood (now self.new)) }
-        ensures unions { IfOk result (λ unions. AreUnions (HaveOneLabel (length self.old.parts.rows.rows) self.old.parts.labels.items) (HaveOneLabel (length self.old.parts.rows.rows) self.new.parts.labels.items) unions) }
+        ensures unions { IfOk result (λ unions. AreUnions (length self.old.parts.rows.rows) (HaveOneLabel (length self.old.parts.rows.rows) self.old.parts.labels.items) (HaveOneLabel (length self.old.parts.rows.rows) self.new.parts.labels.items) unions) }
         ensures history { KeepsHistory self.old self.new }
     {
         let _terms = self.parts.rows.len();
@@ -66,7 +66,7 @@ impl Classes {
         requires right_in { right < length self.old.parts.rows.rows }
         ensures ok { OnOk result (Follows (now self.old) (now self.new) serial (MergeOp left right)) }
         ensures good { IsGood (now self.new) }
-        ensures unions { IfOk result (λ unions. AreUnions (HaveOneLabel (length self.old.parts.rows.rows) self.old.parts.labels.items) (HaveOneLabel (length self.old.parts.rows.rows) self.new.parts.labels.items) unions) }
+        ensures unions { IfOk result (λ unions. AreUnions (length self.old.parts.rows.rows) (HaveOneLabel (length self.old.parts.rows.rows) self.old.parts.labels.items) (HaveOneLabel (length self.old.parts.rows.rows) self.new.parts.labels.items) unions) }
         ensures err { OnErr result (now self.new ≡ now self.old) }
         ensures history { KeepsHistory self.old self.new }
     {

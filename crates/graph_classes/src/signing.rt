@@ -3,7 +3,8 @@ ghost use Rattle.std.specs.Prelude.{◌≡◌, ◌<◌, ◌++◌, ◌∷◌, ◌
 ghost use Rattle.graph_classes.specs.State.{list_at};
 ghost use Rattle.graph_classes.specs.History.{now, KeepsHistory};
 ghost use Rattle.graph_classes.specs.Closure.{signature as signature_of};
-ghost use Rattle.graph_classes.specs.Indexed.{IsSignable, HasUsesMoved, IsClosing, AreBelow};
+ghost use Rattle.graph_classes.specs.Indexed.{IsSignable, HasUsesMoved, IsClosing};
+ghost use Rattle.graph_meaning.specs.Lawful.{EndsBelow};
 
 use crate::classes::Classes;
 use graph_terms::{Memory, TermRow};
@@ -32,10 +33,10 @@ impl Classes {
     ) -> Result<(), Memory>
         requires signable { IsSignable (now self.old) }
         requires term_in { term < length self.old.parts.rows.rows }
-        requires pending_in { AreBelow (length self.old.parts.rows.rows) pending.old.items }
+        requires pending_in { EndsBelow pending.old.items (length self.old.parts.rows.rows) }
         ensures table_alone { OnOk result (now self.new ≡ record (now self.old) { table = self.new.parts.table }) }
         ensures signable { OnOk result (IsSignable (now self.new)) }
-        ensures pending_in { OnOk result (AreBelow (length self.old.parts.rows.rows) pending.new.items) }
+        ensures pending_in { OnOk result (EndsBelow pending.new.items (length self.old.parts.rows.rows)) }
         ensures closing { OnOk result ((merges : List (ℕ × ℕ)) (rest : List ℕ) → IsClosing merges (now self.old) pending.old.items (term ∷ rest) → IsClosing merges (now self.new) pending.new.items rest) }
         ensures history { KeepsHistory self.old self.new }
     {
@@ -63,9 +64,9 @@ impl Classes {
         requires into_in { into < length self.old.parts.uses.items }
         requires apart { from ≢ into }
         requires uses_in { (u : ℕ) → Contains (list_at self.old.parts.uses.items from) u → u < length self.old.parts.rows.rows }
-        requires pending_in { AreBelow (length self.old.parts.rows.rows) pending.old.items }
+        requires pending_in { EndsBelow pending.old.items (length self.old.parts.rows.rows) }
         ensures moved { OnOk result (HasUsesMoved (now self.old) (now self.new) (list_at self.old.parts.uses.items from) into) }
-        ensures pending_in { OnOk result (AreBelow (length self.old.parts.rows.rows) pending.new.items) }
+        ensures pending_in { OnOk result (EndsBelow pending.new.items (length self.old.parts.rows.rows)) }
         ensures closing { OnOk result ((merges : List (ℕ × ℕ)) → IsClosing merges (now self.old) pending.old.items (list_at self.old.parts.uses.items from) → IsClosing merges (now self.new) pending.new.items []) }
         ensures history { KeepsHistory self.old self.new }
     {

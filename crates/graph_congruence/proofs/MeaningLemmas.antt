@@ -11,8 +11,8 @@ use Rattle.graph_meaning.specs.Standing.{terms_of, merges_of}
 use Rattle.graph_classes.specs.State.{State}
 use Rattle.graph_classes.specs.Indexed.{HaveOneLabel}
 use Rattle.graph_classes.specs.Standing.{IsGood}
-use Rattle.graph_classes.specs.Unions as unions
-use Rattle.graph_congruence.specs.Operations.{WasSame}
+use Rattle.graph_meaning.specs.Unions as unions
+use Rattle.graph_meaning.specs.Unions.{WasSame}
 use Rattle.graph_congruence.proofs.ClosureLemmas.{same_where_labels_are, labels_are_where_same}
 
 -- in a good state, labels are equal exactly where the terms are the same
@@ -49,11 +49,12 @@ Generated-map old old' us f s t (unions.turned g) = unions.turned (Generated-map
 Generated-map old old' us f s t (unions.joined {t = m} g h) = unions.joined (Generated-map old old' us f s m g) (Generated-map old old' us f m t h)
 
 -- the unions of relations that are the same
-pub AreUnions-map : (old old' new new' : ℕ → ℕ → Type 0) (us : List Union) → ((s t : ℕ) → old s t → old' s t) → ((s t : ℕ) → old' s t → old s t) → ((s t : ℕ) → new s t → new' s t) → ((s t : ℕ) → new' s t → new s t)
-    → unions.AreUnions old new us → unions.AreUnions old' new' us
-AreUnions-map old old' new new' us f g h k are = record {
+pub AreUnions-map : (terms : ℕ) (old old' new new' : ℕ → ℕ → Type 0) (us : List Union) → ((s t : ℕ) → old s t → old' s t) → ((s t : ℕ) → old' s t → old s t) → ((s t : ℕ) → new s t → new' s t) → ((s t : ℕ) → new' s t → new s t)
+    → unions.AreUnions terms old new us → unions.AreUnions terms old' new' us
+AreUnions-map terms old old' new new' us f g h k are = record {
   generated = λ s t n. Generated-map old old' us f s t (are.generated s t (k s t n));
   held = λ s t n. h s t (are.held s t (Generated-map old' old us g s t n));
+  below = are.below;
   led = λ i u is. let leads = are.led i u is in record {
     left = λ other n. leads.left other (Generated-map old' old (take i us) g u.left other n);
     right = λ other n. leads.right other (Generated-map old' old (take i us) g u.right other n);
@@ -62,17 +63,19 @@ AreUnions-map old old' new new' us f g h k are = record {
 }
 
 -- the unions of an operation that adds no row
-pub AreUnions-same : (s new : State) (us : List Union) → IsGood s → IsGood new → new.rows ≡ s.rows → unions.AreUnions (HaveOneLabel (length s.rows) s.labels) (HaveOneLabel (length s.rows) new.labels) us → unions.AreUnions (WasSame s.log (length (terms_of s.log))) (Same new.log) us
+pub AreUnions-same : (s new : State) (us : List Union) → IsGood s → IsGood new → new.rows ≡ s.rows → unions.AreUnions (length s.rows) (HaveOneLabel (length s.rows) s.labels) (HaveOneLabel (length s.rows) new.labels) us → unions.ListsUnions s.log new.log us
 AreUnions-same s new us good good' rows are =
-    AreUnions-map _ _ _ _ us
+    let terms : length (terms_of new.log) ≡ length s.rows = sym (ap length good'.terms) ∙ ap length rows in
+    let P : ℕ → Type 0 = λ n. unions.AreUnions n (WasSame s.log n) (Same new.log) us in
+    subst P (sym terms) (AreUnions-map _ _ _ _ _ us
     (λ a b h. inl (same_of_label s good a b h))
     (λ a b h. elim h [
       | inl same ↦ label_of_same s good a b same
-      | inr one ↦ let low : a < length s.rows = rw (ap length good.terms) one.1 in (low, rw (← one.0) low, ap (slice_index s.labels) one.0)
+      | inr one ↦ (one.1, rw (← one.0) one.1, ap (slice_index s.labels) one.0)
     ])
     (λ a b h. same_of_label new good' a b (rw rows h.0, rw rows h.1, h.2))
     (λ a b same. let h = label_of_same new good' a b same in (rw (← rows) h.0, rw (← rows) h.1, h.2))
-    are
+    are)
 
 -- ---- a row was added
 
@@ -111,11 +114,11 @@ module _ (s : State) (good : IsGood s) where
     | inr one ↦ (one.1, rw (← one.0) one.1, ap (slice_index (s.labels ++ length s.rows ∷ [])) one.0)
   ]
 
-  pub AreUnions-added : (new : State) (row : TermRow) (us : List Union) → IsGood new → new.rows ≡ s.rows ++ row ∷ [] → unions.AreUnions (HaveOneLabel (length new.rows) (s.labels ++ length s.rows ∷ [])) (HaveOneLabel (length new.rows) new.labels) us
-      → unions.AreUnions (WasSame s.log (length (terms_of new.log))) (Same new.log) us
+  pub AreUnions-added : (new : State) (row : TermRow) (us : List Union) → IsGood new → new.rows ≡ s.rows ++ row ∷ [] → unions.AreUnions (length new.rows) (HaveOneLabel (length new.rows) (s.labels ++ length s.rows ∷ [])) (HaveOneLabel (length new.rows) new.labels) us
+      → unions.ListsUnions s.log new.log us
   AreUnions-added new row us good' rows are =
       let len : length new.rows ≡ length s.rows + 1 = ap length rows ∙ length_push s.rows row in
       let terms : length (terms_of new.log) ≡ length s.rows + 1 = sym (ap length good'.terms) ∙ len in
-      let P : ℕ → Type 0 = λ n. unions.AreUnions (WasSame s.log n) (Same new.log) us in
-      let Q : ℕ → Type 0 = λ n. unions.AreUnions (HaveOneLabel n (s.labels ++ length s.rows ∷ [])) (HaveOneLabel (length new.rows) new.labels) us in
-      subst P (sym terms) (AreUnions-map _ _ _ _ us was_one one_was (same_of_label new good') (label_of_same new good') (subst Q len are))
+      let P : ℕ → Type 0 = λ n. unions.AreUnions n (WasSame s.log n) (Same new.log) us in
+      let Q : ℕ → Type 0 = λ n. unions.AreUnions n (HaveOneLabel n (s.labels ++ length s.rows ∷ [])) (HaveOneLabel (length new.rows) new.labels) us in
+      subst P (sym terms) (AreUnions-map _ _ _ _ _ us was_one one_was (same_of_label new good') (label_of_same new good') (subst Q len are))

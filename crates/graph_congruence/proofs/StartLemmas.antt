@@ -6,8 +6,7 @@ use Rattle.std.proofs.lemmas.List.{length-take, take-take}
 use Rattle.graph_trail.specs.Undo.{state_before}
 use Rattle.graph_meaning.specs.declared.done.Done.{Done}
 use Rattle.graph_meaning.specs.declared.op.Op.{Op}
-use Rattle.graph_meaning.specs.LawfulLaws.{then_op}
-use Rattle.graph_meaning.specs.Standing.{is_push, levels_of}
+use Rattle.graph_meaning.specs.Standing.{then_op, is_push, levels_of}
 use Rattle.graph_classes.specs.declared.classes.Classes.{Classes}
 use Rattle.graph_classes.specs.declared.change.Change.{Change}
 use Rattle.graph_classes.specs.State.{State, before_change}

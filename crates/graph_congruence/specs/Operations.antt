@@ -1,31 +1,18 @@
 -- What an operation is told by.
-use Rattle.std.specs.Prelude.{◌≡◌, ◌<◌, ◌≤◌, ◌+◌, ◌-◌, ◌⊎◌, ℕ, Bool, true, false, List, [], length, take, Some, slice_get, All}
+use Rattle.std.specs.Prelude.{◌≡◌, ◌+◌, ◌-◌, ℕ, Bool, true, false, List, [], length, take, Some, slice_get}
 use Rattle.graph_meaning.specs.declared.done.Done.{Done}
 use Rattle.graph_meaning.specs.declared.op.Op.TheVariants.{Add}
 use Rattle.graph_terms.specs.declared.term_row.TermRow.{TermRow}
 use Rattle.graph_meaning.specs.declared.union.Union.{Union}
-use Rattle.graph_meaning.specs.Same.{Same}
 use Rattle.graph_meaning.specs.Standing.{is_push, terms_of}
 use Rattle.graph_meaning.specs.State.{GraphState, state_after}
-use Rattle.graph_terms.specs.Terms.{term_row, HasRow, IsAbsent}
-use Rattle.graph_classes.specs.Unions.{AreUnions}
-
--- the two terms were the same, or are one of the first terms
-abbrev pub WasSame : List Done → ℕ → ℕ → ℕ → Type 0
-WasSame standing terms s t = Same standing s t ⊎ ((s ≡ t) × (s < terms))
+use Rattle.graph_terms.specs.Terms.{HasRow, IsAbsent}
+use Rattle.graph_meaning.specs.Unions.{ListsUnions}
 
 -- the row is new and the Add was done, or the row stood and nothing was done
 pub data Adds (old new : GraphState) (row : TermRow) (term : ℕ) (unions : List Union) : Bool → Type 0 where
-  new_row : IsAbsent (terms_of old.standing) row → term ≡ length (terms_of old.standing) → new ≡ state_after old (Add row.symbol row.args) → AreUnions (WasSame old.standing (length (terms_of new.standing))) (Same new.standing) unions → Adds old new row term unions true
+  new_row : IsAbsent (terms_of old.standing) row → term ≡ length (terms_of old.standing) → new ≡ state_after old (Add row.symbol row.args) → ListsUnions old.standing new.standing unions → Adds old new row term unions true
   old_row : HasRow (terms_of old.standing) term row → new ≡ old → unions ≡ [] → Adds old new row term unions false
-
--- the row is new, and its few arguments are terms
-abbrev pub AllowsRow : List TermRow → ℕ → List ℕ → Type 0
-AllowsRow rows symbol args = All (λ arg. arg < length rows) args × (length args ≤ 255) × IsAbsent rows (term_row symbol args)
-
--- both numbers are among the first terms
-abbrev pub AreTerms : ℕ → ℕ → ℕ → Type 0
-AreTerms terms left right = (left < terms) × (right < terms)
 
 -- the operation that was done last stands last, and opens no level
 abbrev pub CanTakeBack : GraphState → Type 0

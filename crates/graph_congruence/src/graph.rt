@@ -1,17 +1,16 @@
-//! The graph.
+//! The graph with a trail: each operation by a call of its own, and the way back.
 ghost use Rattle.std.specs.Prelude.{◌≡◌, ◌≤◌, ◌<◌, ◌+◌, ◌-◌, ◌^◌, ◌↔◌, ◌≢◌, [], ◌∷◌, length, take, slice_get, All, IsOk, IfOk, IfSome, IfNone, OnOk, OnErr, IsTrue};
 ghost use Rattle.std.specs.List.{before_last};
 ghost use Rattle.std.specs.Option.{option_copied};
 ghost use Rattle.graph_meaning.specs.declared.op.Op.{Op as SpecOp};
 ghost use Rattle.graph_meaning.specs.declared.op.Op.TheVariants.{Add as AddOp, Merge as MergeOp, Differ as DifferOp, Live as LiveOp, Push as PushOp, Pop as PopOp};
-ghost use Rattle.graph_meaning.specs.Lawful.{Allows};
-ghost use Rattle.graph_meaning.specs.Same.{Same};
+ghost use Rattle.graph_meaning.specs.Lawful.{Allows, AllowsRow, AreBelow};
 ghost use Rattle.graph_meaning.specs.Standing.{is_push, terms_of, levels_of, differs_added, triggers_added};
 ghost use Rattle.graph_meaning.specs.State.{GraphState, first_state, state_after, table_of, IsFullFor};
-ghost use Rattle.graph_terms.specs.Terms.{term_row, IsFull};
+ghost use Rattle.graph_terms.specs.Terms.{most_args, term_row, IsFull};
 ghost use Rattle.graph_trigger.specs.Trigger.{IsValid};
-ghost use Rattle.graph_classes.specs.Unions.{AreUnions};
-ghost use Rattle.graph_congruence.specs.Operations.{Adds, AllowsRow, AreTerms, WasSame, CanTakeBack, taken_back};
+ghost use Rattle.graph_meaning.specs.Unions.{ListsUnions};
+ghost use Rattle.graph_congruence.specs.Operations.{Adds, CanTakeBack, taken_back};
 ghost use Rattle.graph_congruence.specs.Clash.{IsClash};
 ghost use Rattle.graph_congruence.specs.Last.{DropsLast, IsLastShare};
 
@@ -19,13 +18,10 @@ use crate::clash::Clash;
 use crate::share::{Share, share_of};
 use graph_classes::{Added, Classes, Place, Unions};
 use graph_meaning::{ClassGraph, Done, Front, Op};
-use graph_terms::{Memory, Numbers, TableFault, TermRow};
+use graph_terms::{MOST_ARGS, Memory, Numbers, TableFault, TermRow, are_below};
 use graph_trigger::Trigger;
 use std::alloc::Global;
 use std::marker::Model;
-
-/// The most arguments that a row may have.
-const MOST_ARGS: u32 = 255;
 
 /// Terms in classes, closed under congruence, with a way back to any operation that stands.
 #[derive(Drop)]
@@ -65,15 +61,9 @@ fn first_apart(alloc: Global) -> Result<Vec<(u32, u32)>, Memory>
     Ok(apart)
 }
 
-/// Whether each number is below the bound.
-fn are_below(numbers: &[u32], bound: u32) -> bool
-    ensures { IsTrue result ↔ All (λ number. number < bound) numbers.now }
-{
-    numbers.iter().all(|number| *number < bound)
-}
-
 impl Graph {
-    /// A graph of true and false alone, which may have so many terms.
+    /// A graph of true and false alone, which may have `limit` terms, those two included. `Memory` comes where memory is
+    /// refused.
     pub fn new(alloc: Global, limit: u32) -> Result<Graph, Memory>
         requires { 2 ≤ limit }
         ensures { IfOk result (λ graph. graph ≡ first_state limit) }
@@ -96,6 +86,7 @@ impl Graph {
         ensures value { result ≡ self.now.limit }
         ensures within { length (terms_of self.now.standing) ≤ self.now.limit }
     {
+        // What a graph keeps true of its fields is known once a field is read.
         let classes = &self.classes;
         classes.parts.rows.limit()
     }
@@ -130,7 +121,7 @@ impl Graph {
         ensures term { IfOk result (λ added. added.term ≡ length (terms_of self.old.standing)) }
         ensures fresh { IfOk result (λ added. IsTrue added.fresh) }
         ensures ok { OnOk result (self.new ≡ state_after self.old (AddOp symbol args.now)) }
-        ensures unions { IfOk result (λ added. AreUnions (WasSame self.old.standing (length (terms_of self.new.standing))) (Same self.new.standing) added.unions) }
+        ensures unions { IfOk result (λ added. ListsUnions self.old.standing self.new.standing added.unions) }
         ensures full { result ≡ Err TableFault.Full → length (terms_of self.old.standing) ≡ self.old.limit }
         ensures err { OnErr result (self.new ≡ self.old) }
     {
@@ -148,7 +139,7 @@ impl Graph {
     /// The term of a row, which is entered with all that follows where it is new.
     fn enter(&mut self, symbol: u32, args: &[u32]) -> Result<Added, TableFault>
         requires terms { All (λ arg. arg < length (terms_of self.old.standing)) args.now }
-        requires few { length args.now ≤ 255 }
+        requires few { length args.now ≤ most_args }
         ensures added { IfOk result (λ added. Adds self.old self.new (term_row symbol args.now) added.term added.unions added.fresh) }
         ensures full { result ≡ Err TableFault.Full → IsFull (table_of self.old) (term_row symbol args.now) }
         ensures err { OnErr result (self.new ≡ self.old) }
@@ -167,7 +158,7 @@ impl Graph {
     /// terms stand as may. After a fault the graph is as before.
     pub fn add(&mut self, symbol: u32, args: &[u32]) -> Result<Added, TableFault>
         requires terms { All (λ arg. arg < length (terms_of self.old.standing)) args.now }
-        requires few { length args.now ≤ 255 }
+        requires few { length args.now ≤ most_args }
         ensures added { IfOk result (λ added. Adds self.old self.new (term_row symbol args.now) added.term added.unions added.fresh) }
         ensures within { length (terms_of self.new.standing) ≤ self.new.limit }
         ensures full { result ≡ Err TableFault.Full → IsFull (table_of self.old) (term_row symbol args.now) }
@@ -183,7 +174,7 @@ impl Graph {
         requires left { left < length (terms_of self.old.standing) }
         requires right { right < length (terms_of self.old.standing) }
         ensures ok { OnOk result (self.new ≡ state_after self.old (MergeOp left right)) }
-        ensures unions { IfOk result (λ unions. AreUnions (WasSame self.old.standing (length (terms_of self.old.standing))) (Same self.new.standing) unions) }
+        ensures unions { IfOk result (λ unions. ListsUnions self.old.standing self.new.standing unions) }
         ensures err { OnErr result (self.new ≡ self.old) }
     {
         if !self.has_number() {
@@ -362,7 +353,7 @@ impl Graph {
 
     /// Whether both terms stand.
     fn are_terms(&self, left: u32, right: u32) -> bool
-        ensures { IsTrue result ↔ AreTerms (length (terms_of self.now.standing)) left right }
+        ensures { IsTrue result ↔ AreBelow (length (terms_of self.now.standing)) left right }
     {
         let terms = self.len();
         left < terms && right < terms
@@ -412,6 +403,7 @@ impl Graph {
         }
         Ok(())
     }
+
     /// Does the operation. `Full` comes where it adds a term and as many stand as may. After a fault the graph is as
     /// before. A Pop always succeeds.
     pub fn apply(&mut self, op: &Op) -> Result<(), TableFault>

@@ -7,9 +7,13 @@ use graph_meaning::{Done, Op};
 /// How many levels, live triggers and disequations came with an operation.
 #[derive(Clone, Copy)]
 pub struct Share {
+    /// Whether it opened a level.
     pub opens: bool,
+    /// How many levels came with it: 1 or 0.
     pub levels: u32,
+    /// How many live triggers came with it: 1 or 0.
     pub triggers: usize,
+    /// How many disequations came with it: 1 or 0.
     pub differs: usize,
 }
 

@@ -2,17 +2,12 @@
 use Rattle.std.specs.Prelude.{◌≡◌, ◌≢◌, ◌≤◌, ◌⊎◌, ℕ, List, [], ◌∷◌, length, slice_get, Some}
 use Rattle.graph_trigger.specs.declared.trigger.Trigger.{Trigger}
 use Rattle.graph_trigger.specs.declared.pattern_row.PatternRow.TheVariants.{Var, App}
+use Rattle.graph_meaning.specs.declared.claim.Claim.{Claim}
 use Rattle.graph_meaning.specs.declared.done.Done.{Done}
 use Rattle.graph_terms.specs.Terms.{term_row, HasRow}
 use Rattle.graph_meaning.specs.Standing.{terms_of, triggers_of}
 use Rattle.graph_meaning.specs.Same.{Same}
 use Rattle.graph_trigger.specs.Trigger.{Occurs}
-
--- an item of work: to match the live trigger with this number, where its pattern at `start` matches the very term `root`
-pub record Claim : Type 0 where
-  pub trigger : ℕ
-  pub start : ℕ
-  pub root : ℕ
 
 -- the path from the trigger's pattern at `start` leads to an application of the symbol
 abbrev pub AppliesAt : Trigger → ℕ → List ℕ → ℕ → Type 0
@@ -55,7 +50,8 @@ pub record Through (standing : List Done) (trigger : Trigger) (start root joined
   pub same : Same standing term joined
   pub links : LinksAt standing trigger start (place ∷ path) term
 
--- the two terms are of one class now, and were not before
+-- the two terms are of one class now, and were not before; one new term may be both of them, which does no harm: a claim
+-- on its own symbol that is justified so is justified by a new root or by two different terms too
 pub record JoinedSince (before now : List Done) (left right : ℕ) : Type 0 where
   pub same : Same now left right
   pub apart : Same before left right → ⊥

@@ -10,12 +10,9 @@ use Rattle.graph_meaning.specs.declared.op.Op.TheVariants.{Add, Merge, Differ, L
 use Rattle.graph_terms.specs.Terms.{term_row, first_rows, IsTable}
 use Rattle.graph_trigger.specs.Trigger.{IsValid}
 use Rattle.graph_meaning.specs.Standing.{added_row, merged_ends, different_ends, live_trigger, terms_of, merges_of, differs_of, triggers_of, rows_added, merges_added, differs_added, triggers_added, standing_after}
+pub use Rattle.graph_meaning.specs.Standing.{then_op}
 use Rattle.graph_meaning.specs.Lawful.{Allows, EndsBelow, KeepsRules, IsLawful}
 use Rattle.graph_terms.specs.TableLaws.{IsTable-first, IsTable-push}
-
--- the list with the operation at its end
-abbrev pub then_op : List Done → ℕ → Op → List Done
-then_op standing serial op = standing ++ record { serial = serial; op = op } ∷ []
 
 module _ (standing : List Done) (serial : ℕ) where
   -- the terms after one operation more

@@ -1,6 +1,10 @@
 pub mod Standing
 pub mod Same
 pub mod Match
+pub mod Known
+pub mod Values
+pub mod Unions
+pub mod Order
 pub mod Justified
 pub mod Lawful
 pub mod State

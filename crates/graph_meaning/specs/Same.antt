@@ -19,11 +19,14 @@ mutual
     none : DerivesEach rows merges [] []
     more : {s t : ℕ} {ss ts : List ℕ} → Derives rows merges s t → DerivesEach rows merges ss ts → DerivesEach rows merges (s ∷ ss) (t ∷ ts)
 
--- two terms of the standing list are equal by its equations
+-- the least term that is derived equal to this one
+pub record IsClassLeader (rows : List TermRow) (merges : List (ℕ × ℕ)) (term leader : ℕ) : Type 0 where
+  pub same : Derives rows merges leader term
+  pub least : (other : ℕ) → Derives rows merges other term → leader ≤ other
+
+-- the same two over the terms and equations of a standing list
 abbrev pub Same : List Done → ℕ → ℕ → Type 0
 Same standing s t = Derives (terms_of standing) (merges_of standing) s t
 
--- the least term that is the same as this one
-pub record IsLeader (standing : List Done) (term leader : ℕ) : Type 0 where
-  pub same : Same standing leader term
-  pub least : (other : ℕ) → Same standing other term → leader ≤ other
+abbrev pub IsLeader : List Done → ℕ → ℕ → Type 0
+IsLeader standing term leader = IsClassLeader (terms_of standing) (merges_of standing) term leader

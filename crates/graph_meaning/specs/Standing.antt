@@ -12,10 +12,14 @@ use Rattle.graph_terms.specs.Terms.{term_row, first_rows}
 abbrev pub is_push : Done → Bool
 is_push done = elim done.op [ Push ↦ true | _ ↦ false ]
 
+-- the list with the operation at its end
+abbrev pub then_op : List Done → ℕ → Op → List Done
+then_op standing serial op = standing ++ record { serial = serial; op = op } ∷ []
+
 -- the standing list after one operation more: a Pop takes away the last Push and all after it
 abbrev pub standing_after : List Done → ℕ → Op → List Done
 standing_after standing serial Pop = before_last is_push standing
-standing_after standing serial op = standing ++ record { serial = serial; op = op } ∷ []
+standing_after standing serial op = then_op standing serial op
 
 -- the standing list after further operations, of which the first has this serial
 abbrev pub standing_from : List Done → ℕ → List Op → List Done

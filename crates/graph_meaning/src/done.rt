@@ -6,7 +6,7 @@ ghost use Rattle.graph_meaning.specs.Standing.{is_push, live_trigger, merged_end
 use crate::op::Op;
 use graph_trigger::Trigger;
 
-/// An operation that was done, with its serial number: its place among all that were done.
+/// An operation that was done, with its serial number: its place among all that were done, counted from 0.
 #[derive(Debug, Drop)]
 pub struct Done {
     pub serial: u64,
@@ -14,7 +14,7 @@ pub struct Done {
 }
 
 impl Done {
-    /// The trigger that it makes live.
+    /// The trigger that it makes live, or `None` where it is another operation.
     pub fn live_trigger(&self) -> Option<&Trigger>
         ensures { option_copied result ≡ live_trigger self.now }
     {
@@ -34,7 +34,7 @@ impl Done {
         }
     }
 
-    /// How many terms it adds.
+    /// How many terms it adds: 1 for an Add, and 0 for each other operation.
     pub fn terms_added(&self) -> u32
         ensures { result ≡ length (rows_added self.now.op) }
     {
@@ -44,7 +44,7 @@ impl Done {
         }
     }
 
-    /// The ends of an equation.
+    /// The two terms of the equation that it adds, or `None` where it is another operation.
     pub fn merged_ends(&self) -> Option<(u32, u32)>
         ensures { result ≡ merged_ends self.now }
     {

@@ -1,6 +1,8 @@
 //! What a graph of terms means: operations, standing lists, congruence and matching, and what every graph answers.
 #![tactic(auto)]
 
+pub mod arrange;
+pub mod claim;
 pub mod done;
 pub mod front;
 pub mod graph;
@@ -8,6 +10,7 @@ pub mod laws;
 pub mod op;
 pub mod union;
 
+pub use claim::Claim;
 pub use done::Done;
 pub use front::Front;
 pub use graph::ClassGraph;

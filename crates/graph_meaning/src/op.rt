@@ -5,14 +5,14 @@ use graph_terms::{Memory, Numbers};
 use graph_trigger::Trigger;
 use std::alloc::Global;
 
-/// One operation on a graph.
+/// One operation on a graph. Terms and symbols are named by their numbers.
 #[derive(Debug, Drop)]
 pub enum Op {
-    /// A new row.
+    /// A new row, of a symbol over terms that stand.
     Add { symbol: u32, args: Numbers },
-    /// An equation.
+    /// An equation between two terms that stand.
     Merge { left: u32, right: u32 },
-    /// A disequation.
+    /// A disequation between two terms that stand.
     Differ { left: u32, right: u32 },
     /// A trigger that is matched from now on.
     Live { trigger: Trigger },
@@ -23,7 +23,7 @@ pub enum Op {
 }
 
 impl Op {
-    /// An equal operation.
+    /// The same operation. `Memory` comes where memory is refused.
     pub fn copy(&self, alloc: Global) -> Result<Op, Memory>
         ensures { IfOk result (λ op. op ≡ self.now) }
     {

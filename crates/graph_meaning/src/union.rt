@@ -1,6 +1,6 @@
 //! A union of two classes.
 
-/// Two leaders whose classes were joined.
+/// Two terms whose classes were joined, each the leader of its class at that moment.
 #[derive(Clone, Copy, Debug, PartialEq, Eq)]
 pub struct Union {
     pub left: u32,

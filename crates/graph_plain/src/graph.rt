@@ -4,23 +4,20 @@ ghost use Rattle.std.specs.List.{before_last};
 ghost use Rattle.graph_meaning.specs.Standing.{is_push, levels_of, rows_added, terms_of};
 ghost use Rattle.graph_meaning.specs.Questions.{HasSymbol, IsNth, IsParent};
 ghost use Rattle.graph_meaning.specs.State.{first_state, IsFullFor, state_after, table_of};
-ghost use Rattle.graph_meaning.specs.Lawful.{Allows};
+ghost use Rattle.graph_meaning.specs.Lawful.{Allows, AllowsRow, AreBelow};
 ghost use Rattle.graph_plain.specs.Labels.{labels_added};
-ghost use Rattle.graph_plain.specs.Operations.{AllowsOpRow, AllowsRow, AreBelow, levels_opened};
+ghost use Rattle.graph_plain.specs.Operations.{AllowsOpRow, levels_opened};
 ghost use Rattle.graph_plain.specs.Picks.{IsAskable, IsPicked};
 
 use crate::labels::{close, reset};
 use crate::pick::Pick;
 use graph_meaning::{ClassGraph, Done, Front, Op};
-use graph_terms::{Memory, Numbers, TableFault, TermRow, TermTable};
+use graph_terms::{MOST_ARGS, Memory, Numbers, TableFault, TermRow, TermTable, are_below};
 use graph_trigger::Trigger;
 use std::alloc::Global;
 use std::marker::Model;
 
-/// The most arguments that a row may have.
-const MOST_ARGS: u32 = 255;
-
-/// A graph that is slow and plain.
+/// A graph that joins what has to be joined one pair after another, looking at all pairs of terms, until nothing changes.
 #[derive(Drop)]
 pub struct PlainGraph {
     table: TermTable,
@@ -99,15 +96,9 @@ fn levels_added(op: &Op) -> u64
     }
 }
 
-/// Whether each number is below the bound.
-fn are_below(numbers: &[u32], bound: u32) -> bool
-    ensures { IsTrue result ↔ All (λ number. number < bound) numbers.now }
-{
-    numbers.iter().all(|number| *number < bound)
-}
-
 impl PlainGraph {
-    /// A graph of true and false alone, which may have so many terms.
+    /// A graph of true and false alone, which may have `limit` terms, those two included. `Memory` comes where memory is
+    /// refused.
     pub fn new(alloc: Global, limit: u32) -> Result<PlainGraph, Memory>
         requires { 2 ≤ limit }
         ensures { IfOk result (λ graph. graph ≡ first_state limit) }

@@ -8,7 +8,7 @@ use Rattle.std.proofs.lemmas.Option.{none-some, same_Some, slice_get-map, get_or
 use Rattle.std.proofs.lemmas.List.Quantifiers.{position-Some}
 use Rattle.std.proofs.lemmas.List.{take-map, length-append}
 use Rattle.graph_terms.specs.declared.term_row.TermRow.{TermRow}
-use Rattle.graph_terms.specs.Terms.{term_row, HasRow, IsAbsent, IsTable, Table, Takes}
+use Rattle.graph_terms.specs.Terms.{most_args, term_row, HasRow, IsAbsent, IsTable, Table, Takes}
 use Rattle.graph_terms.specs.Entries.{key_of, IsKeyed, PutsRow}
 use Rattle.graph_terms.specs.ListLaws.{slice_get-push, push_cases, slice_get-take, element_at}
 use Rattle.graph_terms.specs.TableLaws.{IsTable-push}
@@ -61,7 +61,7 @@ module _ (entries : List Entry) (keyed : IsKeyed entries) (symbol : ℕ) (args :
       true≢false (sym ((bytes_decides (symbol ∷ args) here.0.0.items).1 same) ∙ misses test entries none term here.0 here.1)
 
 -- a row with more arguments than rows may have stands in no table
-pub absent-long : (rows : List TermRow) (symbol : ℕ) (args : List ℕ) → IsTable rows → 255 < length args → IsAbsent rows (term_row symbol args)
+pub absent-long : (rows : List TermRow) (symbol : ℕ) (args : List ℕ) → IsTable rows → most_args < length args → IsAbsent rows (term_row symbol args)
 absent-long rows symbol args table long term has = let few = table.few_args term (term_row symbol args) has in omega arith
 
 -- entries that are cut stand under their keys
@@ -115,5 +115,5 @@ pub IsKeyed-puts : (entries new : List Entry) (row : TermRow) → IsKeyed entrie
 IsKeyed-puts entries new row keyed puts = subst IsKeyed (sym puts.2) (IsKeyed-push entries (puts.0, row) keyed puts.1)
 
 -- and so do they stay a table
-pub IsTable-puts : (entries new : List Entry) (row : TermRow) → PutsRow entries new row → All (λ arg. arg < length (values_of entries)) row.args → length row.args ≤ 255 → IsAbsent (values_of entries) row → IsTable (values_of entries) → IsTable (values_of new)
+pub IsTable-puts : (entries new : List Entry) (row : TermRow) → PutsRow entries new row → All (λ arg. arg < length (values_of entries)) row.args → length row.args ≤ most_args → IsAbsent (values_of entries) row → IsTable (values_of entries) → IsTable (values_of new)
 IsTable-puts entries new row puts earlier few absent table = subst IsTable (sym (ap values_of puts.2 ∙ values_of-push entries (puts.0, row))) (IsTable-push _ row earlier few absent table)

@@ -3,7 +3,7 @@ use Rattle.std.proofs.Common.{◌≡◌, ℕ, zero, suc, ◌<◌, ◌≤◌, Lis
 use Rattle.std.proofs.lemmas.Option.{none-some, same_Some}
 use Rattle.std.proofs.lemmas.List.Elements.{All-nil}
 use Rattle.graph_terms.specs.declared.term_row.TermRow.{TermRow}
-use Rattle.graph_terms.specs.Terms.{term_row, first_rows, HasRow, IsAbsent, IsTable}
+use Rattle.graph_terms.specs.Terms.{most_args, term_row, first_rows, HasRow, IsAbsent, IsTable}
 use Rattle.graph_terms.specs.ListLaws.{slice_get-append_left, push_cases, slice_get-take, slice_get-take_below}
 
 -- the rows of true and false are a table
@@ -15,9 +15,9 @@ IsTable-first = record { true_row = refl; false_row = refl; earlier = earlier; f
     earlier (suc zero) row h = subst (λ r. All (λ arg. arg < 1) r.args) (same_Some (term_row 1 []) row h) (All-nil _)
     earlier (suc (suc term)) row h = absurd (none-some row h)
 
-    few : (term : ℕ) (row : TermRow) → HasRow first_rows term row → length row.args ≤ 255
-    few zero row h = subst (λ r. length r.args ≤ 255) (same_Some (term_row 0 []) row h) (omega arith)
-    few (suc zero) row h = subst (λ r. length r.args ≤ 255) (same_Some (term_row 1 []) row h) (omega arith)
+    few : (term : ℕ) (row : TermRow) → HasRow first_rows term row → length row.args ≤ most_args
+    few zero row h = subst (λ r. length r.args ≤ most_args) (same_Some (term_row 0 []) row h) (omega arith)
+    few (suc zero) row h = subst (λ r. length r.args ≤ most_args) (same_Some (term_row 1 []) row h) (omega arith)
     few (suc (suc term)) row h = absurd (none-some row h)
 
     once : (s t : ℕ) (row : TermRow) → HasRow first_rows s row → HasRow first_rows t row → s ≡ t
@@ -40,12 +40,12 @@ IsTable-take len rows least table = record {
 }
 
 -- a table with a new row at its end is a table
-pub IsTable-push : (rows : List TermRow) (row : TermRow) → All (λ arg. arg < length rows) row.args → length row.args ≤ 255 → IsAbsent rows row → IsTable rows → IsTable (rows ++ row ∷ [])
+pub IsTable-push : (rows : List TermRow) (row : TermRow) → All (λ arg. arg < length rows) row.args → length row.args ≤ most_args → IsAbsent rows row → IsTable rows → IsTable (rows ++ row ∷ [])
 IsTable-push rows row earlier few absent table = record {
   true_row = slice_get-append_left rows (row ∷ []) 0 (term_row 0 []) table.true_row;
   false_row = slice_get-append_left rows (row ∷ []) 1 (term_row 1 []) table.false_row;
   earlier = λ t r has. ⊎_elim (table.earlier t r) (λ p. subst (λ r. All (λ arg. arg < t) r.args) (sym p.1) (subst (λ n. All (λ arg. arg < n) row.args) (sym p.0) earlier)) (push_cases rows row t r has);
-  few_args = λ t r has. ⊎_elim (table.few_args t r) (λ p. subst (λ r. length r.args ≤ 255) (sym p.1) few) (push_cases rows row t r has);
+  few_args = λ t r has. ⊎_elim (table.few_args t r) (λ p. subst (λ r. length r.args ≤ most_args) (sym p.1) few) (push_cases rows row t r has);
   once = λ s t r has_s has_t.
       ⊎_elim (λ old. ⊎_elim (table.once s t r old) (λ p. absurd (absent s (old ∙ ap Some p.1))) (push_cases rows row t r has_t))
       (λ new. ⊎_elim (λ old. absurd (absent t (old ∙ ap Some new.1))) (λ p. new.0 ∙ sym p.0) (push_cases rows row t r has_t))

@@ -6,6 +6,10 @@ use Rattle.graph_terms.specs.declared.term_row.TermRow.{TermRow}
 abbrev pub term_row : ℕ → List ℕ → TermRow
 term_row symbol args = record { symbol = symbol; args = args }
 
+-- the most arguments that a row may have
+abbrev pub most_args : ℕ
+most_args = 255
+
 -- the rows of true and false, with which each table begins
 abbrev pub first_rows : List TermRow
 first_rows = term_row 0 [] ∷ term_row 1 [] ∷ []
@@ -19,7 +23,7 @@ pub record IsTable (rows : List TermRow) : Type 0 where
   pub true_row : HasRow rows 0 (term_row 0 [])
   pub false_row : HasRow rows 1 (term_row 1 [])
   pub earlier : (term : ℕ) (row : TermRow) → HasRow rows term row → All (λ arg. arg < term) row.args
-  pub few_args : (term : ℕ) (row : TermRow) → HasRow rows term row → length row.args ≤ 255
+  pub few_args : (term : ℕ) (row : TermRow) → HasRow rows term row → length row.args ≤ most_args
   pub once : (s t : ℕ) (row : TermRow) → HasRow rows s row → HasRow rows t row → s ≡ t
 
 -- no term has this row

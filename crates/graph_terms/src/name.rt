@@ -5,7 +5,7 @@ use crate::memory::Memory;
 use std::alloc::Global;
 use std::marker::Model;
 
-/// The bytes of a name.
+/// The bytes of a name, of any values, at most `u32::MAX` of them.
 #[derive(Debug, Drop)]
 pub struct Name {
     bytes: Vec<u8>,
@@ -22,7 +22,7 @@ impl Model for Name {
 }
 
 impl Name {
-    /// The name with these bytes.
+    /// The name with these bytes. `Memory` comes where memory is refused or there are more than `u32::MAX` of them.
     pub fn from_slice(alloc: Global, items: &[u8]) -> Result<Name, Memory>
         ensures { IfOk result (λ name. name ≡ items.now) }
     {
@@ -33,12 +33,14 @@ impl Name {
         Ok(Name { bytes })
     }
 
+    /// How many bytes it has: at most `u32::MAX`.
     pub fn len(&self) -> u32
         ensures { result ≡ length self.now }
     {
         self.bytes.len() as u32
     }
 
+    /// The byte at the place `i`, counted from 0. The caller sees that it is below `len()`.
     pub fn get(&self, i: u32) -> u8
         requires { i < length self.now }
         ensures { slice_get self.now i ≡ Some result }
@@ -46,6 +48,7 @@ impl Name {
         self.bytes[i as usize]
     }
 
+    /// All its bytes, in order.
     pub fn as_slice(&self) -> &[u8]
         ensures { result.now ≡ self.now }
     {

@@ -1,7 +1,7 @@
 //! The table of terms: a row stands once, and its number is its place.
 ghost use Rattle.std.specs.Prelude.{◌≡◌, ◌+◌, ◌<◌, ◌≤◌, ◌∷◌, length, take, All, IfOk, IfSome, IfNone, OnOk, OnErr};
 ghost use Rattle.indexmap.specs.IndexMap.{values};
-ghost use Rattle.graph_terms.specs.Terms.{term_row, first_rows, HasRow, IsAbsent, IsFull, IsTable, Takes};
+ghost use Rattle.graph_terms.specs.Terms.{most_args, term_row, first_rows, HasRow, IsAbsent, IsFull, IsTable, Takes};
 ghost use Rattle.graph_terms.specs.Entries.{IsKeyed, PutsRow};
 
 use crate::memory::Memory;
@@ -13,12 +13,13 @@ use std::alloc::Global;
 use std::marker::Model;
 
 /// The most arguments that a row may have.
-pub const MOST_ARGS: usize = 255;
+pub const MOST_ARGS: u32 = 255;
 
-/// A symbol and its arguments, as a key that takes no memory.
+/// Room for a symbol and the most arguments, as a key that takes no memory.
 type Key = [u32; 256];
 
-/// Rows by number, and numbers by row.
+/// The rows of terms by number, and the number of each row. No row stands twice, arguments are terms with lower numbers,
+/// and the terms 0 and 1 are true and false.
 #[derive(Drop)]
 pub struct TermTable {
     limit: u32,
@@ -39,7 +40,7 @@ impl Model for TermTable {
 
 /// Writes a key to the front of the buffer.
 fn write_key(buffer: &mut Key, symbol: u32, args: &[u32])
-    requires { length args.now ≤ 255 }
+    requires { length args.now ≤ most_args }
     ensures { take (1 + length args.now) buffer.new ≡ symbol ∷ args.now }
 {
     buffer[0] = symbol;
@@ -48,7 +49,7 @@ fn write_key(buffer: &mut Key, symbol: u32, args: &[u32])
 
 /// The key of a row that is to be kept.
 fn row_key(alloc: Global, symbol: u32, args: &[u32]) -> Result<Vec<u32>, Memory>
-    requires { length args.now ≤ 255 }
+    requires { length args.now ≤ most_args }
     ensures { IfOk result (λ key. key.items ≡ symbol ∷ args.now) }
 {
     let mut buffer = [0; 256];
@@ -64,7 +65,7 @@ fn put_row(
     symbol: u32,
     args: &[u32],
 ) -> Result<(), Memory>
-    requires few { length args.now ≤ 255 }
+    requires few { length args.now ≤ most_args }
     requires keyed { IsKeyed rows.old.entries }
     requires absent { IsAbsent (values rows.old) (term_row symbol args.now) }
     ensures ok { OnOk result (PutsRow rows.old.entries rows.new.entries (term_row symbol args.now)) }
@@ -81,7 +82,8 @@ fn put_row(
 }
 
 impl TermTable {
-    /// A table with the rows of true and false, which may have so many rows.
+    /// A table with the rows of true and false alone, which may have `limit` rows, those two included. `Memory` comes where
+    /// memory is refused.
     pub fn new(alloc: Global, limit: u32) -> Result<TermTable, Memory>
         requires { 2 ≤ limit }
         ensures rows { IfOk result (λ table. table.rows ≡ first_rows) }
@@ -93,10 +95,11 @@ impl TermTable {
         Ok(TermTable { limit, rows })
     }
 
-    /// The number of the row, which is put last where it is new.
+    /// The number of the row, which is put last where it is new. `Full` comes where it is new and as many rows stand as may,
+    /// and `Memory` where memory is refused; the table is then as before.
     pub fn add(&mut self, symbol: u32, args: &[u32]) -> Result<u32, TableFault>
         requires terms { All (λ arg. arg < length self.old.rows) args.now }
-        requires few { length args.now ≤ 255 }
+        requires few { length args.now ≤ most_args }
         ensures ok { IfOk result (λ term. Takes self.old self.new (term_row symbol args.now) term) }
         ensures full { result ≡ Err TableFault.Full → IsFull self.old (term_row symbol args.now) }
         ensures err { OnErr result (self.new ≡ self.old) }
@@ -113,7 +116,7 @@ impl TermTable {
         Ok(term)
     }
 
-    /// The number of rows.
+    /// How many rows stand: from 2 up to `limit()`.
     pub fn len(&self) -> u32
         ensures value { result ≡ length self.now.rows }
         ensures table { IsTable self.now.rows }
@@ -122,20 +125,21 @@ impl TermTable {
         self.rows.len() as u32
     }
 
-    /// How many rows it may have.
+    /// How many rows it may have: what `new` was given.
     pub fn limit(&self) -> u32
         ensures { result ≡ self.now.limit }
     {
         self.limit
     }
 
-    /// The number of the row, where it stands.
+    /// The number of the row with this symbol and these arguments, or `None` where no such row stands. Takes no memory.
     pub fn find(&self, symbol: u32, args: &[u32]) -> Option<u32>
         ensures found { IfSome result (λ term. HasRow self.now.rows term (term_row symbol args.now)) }
         ensures absent { IfNone result (IsAbsent self.now.rows (term_row symbol args.now)) }
     {
+        // What a value keeps true of its fields is known once a field is read: so one is read before the first return.
         let rows = &self.rows;
-        if args.len() > MOST_ARGS {
+        if args.len() > MOST_ARGS as usize {
             return None;
         }
         let mut buffer = [0; 256];
@@ -146,7 +150,7 @@ impl TermTable {
         }
     }
 
-    /// The row of a term.
+    /// The row of the term with this number, which the caller sees to be below `len()`.
     pub fn row(&self, term: u32) -> &TermRow
         requires { term < length self.now.rows }
         ensures { HasRow self.now.rows term result.now }
@@ -154,7 +158,7 @@ impl TermTable {
         self.rows.get_index(term as usize).unwrap().1
     }
 
-    /// Keeps the first rows.
+    /// Keeps the first `len` rows, of which there are at least the two of true and false. Takes no memory.
     pub fn cut(&mut self, len: u32)
         requires first { 2 ≤ len }
         requires within { len ≤ length self.old.rows }

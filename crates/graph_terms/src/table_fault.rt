@@ -3,13 +3,16 @@ ghost use Rattle.std.specs.Prelude.{◌≡◌};
 
 use crate::memory::Memory;
 use std::alloc::AllocError;
+use thiserror::Error;
 
 /// Why a table did not take a row.
-#[derive(Clone, Copy, Debug, PartialEq, Eq)]
+#[derive(Clone, Copy, Debug, PartialEq, Eq, Error)]
 pub enum TableFault {
     /// The row is new, and as many rows stand as may.
+    #[error("the row is new, and as many rows stand as may")]
     Full,
-    /// Memory was refused.
+    /// Memory was refused, or a count would have passed the greatest number of its type.
+    #[error("memory was refused, or a count would have passed the greatest number of its type")]
     Memory,
 }
 

@@ -5,7 +5,7 @@ use crate::memory::Memory;
 use crate::numbers::Numbers;
 use std::alloc::Global;
 
-/// A symbol, and its arguments by their numbers in the table.
+/// What a term is: the number of its symbol, and the numbers of the terms that are its arguments, in order.
 #[derive(Debug, Drop)]
 pub struct TermRow {
     pub symbol: u32,
@@ -13,7 +13,7 @@ pub struct TermRow {
 }
 
 impl TermRow {
-    /// An equal row.
+    /// A row with the same symbol and arguments. `Memory` comes where memory is refused.
     pub fn copy(&self, alloc: Global) -> Result<TermRow, Memory>
         ensures { IfOk result (λ row. row ≡ self.now) }
     {

@@ -6,7 +6,7 @@ use crate::term_row::TermRow;
 use std::alloc::Global;
 use std::marker::Model;
 
-/// A list of rows of terms.
+/// A list of at most `u32::MAX` rows of terms.
 #[derive(Debug, Drop)]
 pub struct TermRows {
     rows: Vec<TermRow>,
@@ -24,7 +24,7 @@ impl Model for TermRows {
 }
 
 impl TermRows {
-    /// The empty list.
+    /// A list without rows. Takes no memory.
     pub fn new(alloc: Global) -> TermRows
         ensures { result ≡ [] }
     {
@@ -33,7 +33,7 @@ impl TermRows {
         }
     }
 
-    /// Puts one more last.
+    /// Puts one row more at the end. `Memory` comes where memory is refused or the list is full; it is then as before.
     pub fn push(&mut self, row: TermRow) -> Result<(), Memory>
         ensures ok { OnOk result (self.new ≡ self.old ++ row ∷ []) }
         ensures err { OnErr result (self.new ≡ self.old) }
@@ -45,12 +45,14 @@ impl TermRows {
         Ok(())
     }
 
+    /// How many rows it has: at most `u32::MAX`.
     pub fn len(&self) -> u32
         ensures { result ≡ length self.now }
     {
         self.rows.len() as u32
     }
 
+    /// The row at the place `i`, counted from 0. The caller sees that it is below `len()`.
     pub fn get(&self, i: u32) -> &TermRow
         requires { i < length self.now }
         ensures { slice_get self.now i ≡ Some result.now }

@@ -22,7 +22,7 @@ impl<T: Undoable> Model for Trail<T> {
 }
 
 impl<T: Undoable> Trail<T> {
-    /// A trail without notes.
+    /// A trail without notes. Takes no memory.
     pub fn new(alloc: Global) -> Self
         ensures { result ≡ [] }
     {

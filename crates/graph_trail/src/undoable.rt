@@ -6,10 +6,10 @@ pub trait Undoable {
     /// Tells what undoes one change.
     type Note: Drop;
 
-    /// What the value is seen as.
+    /// The type of what the value is seen as, which undoing brings back.
     ghost State: { Type 0 };
 
-    /// The state. Spare room, and the order inside maps, are no part of it.
+    /// What the value is seen as. Spare room, and the order inside maps, are no part of it.
     ghost state: { Self → State };
 
     /// The state before the change that the note stands for, from the state after it.

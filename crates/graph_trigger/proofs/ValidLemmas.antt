@@ -1,8 +1,8 @@
 -- When a trigger is valid, from what is tested of it.
-use Rattle.std.proofs.Common.{◌≡◌, ℕ, zero, suc, ◌+◌, ◌<◌, ◌≤◌, List, [], ◌∷◌, length, get_or, slice_get, ◌↔◌, Bool, true, false, true≢false, IsTrue, IfSome, is_some, Option, Some, None, All, Contains, sym, ap, subst, inl, inr, ◌∙◌, ⊎_elim, arith}
+use Rattle.std.proofs.Common.{◌≡◌, ℕ, zero, suc, ◌+◌, ◌<◌, ◌≤◌, List, [], ◌∷◌, length, get_or, slice_get, ◌↔◌, Bool, true, false, true≢false, IsTrue, IfSome, is_some, Option, Some, None, All, sym, inl, inr, ◌∙◌, ⊎_elim, arith}
 use Rattle.std.proofs.lemmas.Bool.{cases_lt}
-use Rattle.std.proofs.lemmas.Option.{slice_get_within, slice_get-get_or, get_or_from_slice_get}
-use Rattle.std.proofs.lemmas.List.Elements.{All-get_or, All-from_get_or, Contains-get_or}
+use Rattle.std.proofs.lemmas.Option.{slice_get_within, slice_get-get_or}
+use Rattle.std.proofs.lemmas.List.Elements.{All-from_get_or}
 use Rattle.graph_trigger.specs.declared.pattern_row.PatternRow.{PatternRow}
 use Rattle.graph_trigger.specs.declared.pattern_row.PatternRow.TheVariants.{Var, App}
 use Rattle.graph_trigger.specs.declared.trigger.Trigger.{Trigger}

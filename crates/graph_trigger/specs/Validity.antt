@@ -1,13 +1,14 @@
 -- What is tested of a trigger, one fact after another.
 use Rattle.std.specs.Prelude.{◌≡◌, ◌≢◌, ◌⊎◌, ℕ, ◌<◌, ◌≤◌, List, length, slice_get, Some, All, Contains}
+use Rattle.graph_terms.specs.Terms.{most_args}
 use Rattle.graph_trigger.specs.declared.pattern_row.PatternRow.{PatternRow}
 use Rattle.graph_trigger.specs.declared.pattern_row.PatternRow.TheVariants.{Var, App}
-use Rattle.graph_trigger.specs.Trigger.{HasSize, IsApplication}
+use Rattle.graph_trigger.specs.Trigger.{most_size, HasSize, IsApplication}
 
 -- the row at the place names earlier rows, or a variable that there is
 abbrev pub FitsRow : ℕ → ℕ → PatternRow → Type 0
 FitsRow variables place (Var index) = index < variables
-FitsRow variables place (App symbol parts) = (length parts ≤ 255) × All (λ part. part < place) parts
+FitsRow variables place (App symbol parts) = (length parts ≤ most_args) × All (λ part. part < place) parts
 
 abbrev pub FitRows : ℕ → List PatternRow → Type 0
 FitRows variables rows = (place : ℕ) (row : PatternRow) → slice_get rows place ≡ Some row → FitsRow variables place row
@@ -56,4 +57,4 @@ pub record IsLarge (rows : List PatternRow) (row most : ℕ) : Type 0 where
   pub past : most < size
 
 abbrev pub AreSmall : List PatternRow → List ℕ → Type 0
-AreSmall rows roots = (i root size : ℕ) → slice_get roots i ≡ Some root → HasSize rows root size → size ≤ 256
+AreSmall rows roots = (i root size : ℕ) → slice_get roots i ≡ Some root → HasSize rows root size → size ≤ most_size

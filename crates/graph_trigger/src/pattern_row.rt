@@ -4,17 +4,17 @@ ghost use Rattle.std.specs.Prelude.{◌≡◌, IfOk};
 use graph_terms::{Memory, Numbers};
 use std::alloc::Global;
 
-/// A variable, or a symbol over earlier rows. A row stands for the pattern that it unfolds to.
+/// A variable, or a symbol over earlier rows of its list. A row stands for the pattern that it unfolds to.
 #[derive(Debug, Drop)]
 pub enum PatternRow {
-    /// The variable with this index.
+    /// The variable with this index among those of its forall, counted from 0.
     Var { index: u32 },
-    /// The symbol, applied to the patterns of these rows.
+    /// The symbol with this number, applied to the patterns of these rows, in order.
     App { symbol: u32, args: Numbers },
 }
 
 impl PatternRow {
-    /// An equal row.
+    /// The same row. `Memory` comes where memory is refused.
     pub fn copy(&self, alloc: Global) -> Result<PatternRow, Memory>
         ensures { IfOk result (λ row. row ≡ self.now) }
     {

@@ -6,7 +6,7 @@ use graph_terms::Memory;
 use std::alloc::Global;
 use std::marker::Model;
 
-/// A list of pattern rows.
+/// A list of at most `u32::MAX` pattern rows.
 #[derive(Debug, Drop)]
 pub struct PatternRows {
     rows: Vec<PatternRow>,
@@ -24,7 +24,7 @@ impl Model for PatternRows {
 }
 
 impl PatternRows {
-    /// The empty list.
+    /// A list without rows. Takes no memory.
     pub fn new(alloc: Global) -> PatternRows
         ensures { result ≡ [] }
     {
@@ -33,7 +33,7 @@ impl PatternRows {
         }
     }
 
-    /// Puts one more last.
+    /// Puts one row more at the end. `Memory` comes where memory is refused or the list is full; it is then as before.
     pub fn push(&mut self, row: PatternRow) -> Result<(), Memory>
         ensures ok { OnOk result (self.new ≡ self.old ++ row ∷ []) }
         ensures err { OnErr result (self.new ≡ self.old) }
@@ -45,7 +45,7 @@ impl PatternRows {
         Ok(())
     }
 
-    /// An equal list.
+    /// A list of the same rows. `Memory` comes where memory is refused.
     pub fn copy(&self, alloc: Global) -> Result<PatternRows, Memory>
         ensures { IfOk result (λ rows. rows ≡ self.now) }
     {
@@ -56,12 +56,14 @@ impl PatternRows {
         Ok(rows)
     }
 
+    /// How many rows it has: at most `u32::MAX`.
     pub fn len(&self) -> u32
         ensures { result ≡ length self.now }
     {
         self.rows.len() as u32
     }
 
+    /// The row at the place `i`, counted from 0. The caller sees that it is below `len()`.
     pub fn get(&self, i: u32) -> &PatternRow
         requires { i < length self.now }
         ensures { slice_get self.now i ≡ Some result.now }

@@ -1,9 +1,10 @@
-//! Triggers.
+//! Triggers, and when one is valid.
 ghost use Rattle.std.specs.Prelude.{◌≡◌, ◌≤◌, ◌↔◌, IfOk, IsTrue, length};
 
 use crate::pattern_rows::PatternRows;
 use crate::validity::{
-    are_applications, are_new, are_reached, are_small, fit_rows, have_variables,
+    MOST_PATTERNS, MOST_VARIABLES, are_applications, are_new, are_reached, are_small, fit_rows,
+    have_variables,
 };
 use graph_terms::{Memory, Numbers};
 use std::alloc::Global;
@@ -13,13 +14,13 @@ use std::alloc::Global;
 pub struct Trigger {
     /// The number of its forall.
     pub forall: u32,
-    /// Its place among the triggers of its forall.
+    /// Its place among the triggers of its forall, counted from 0.
     pub place: u32,
-    /// How many variables its forall has.
+    /// How many variables its forall has; a valid trigger has each of them.
     pub variables: u32,
     /// The rows of all its patterns.
     pub rows: PatternRows,
-    /// The rows that are whole patterns.
+    /// The numbers of the rows that are whole patterns, in order.
     pub roots: Numbers,
 }
 
@@ -28,11 +29,14 @@ impl Trigger {
 
     /// Whether the trigger keeps to the rules: rows name earlier rows or a variable that there is, no row stands twice,
     /// each is reached from a root, roots are 1 to 16 applications of at most 256 symbols and variables each, counted
-    /// as trees, and exactly the variables below `variables`, at most 32, occur.
+    /// as trees, and exactly the variables below `variables`, at most 32, occur. Takes no memory.
     pub fn valid(&self) -> bool
         ensures { IsTrue result ↔ IsValid self.now }
     {
-        if self.variables > 32 || self.roots.len() < 1 || self.roots.len() > 16 {
+        if self.variables > MOST_VARIABLES
+            || self.roots.len() < 1
+            || self.roots.len() > MOST_PATTERNS
+        {
             return false;
         }
         if !fit_rows(&self.rows, self.variables) {
@@ -53,7 +57,7 @@ impl Trigger {
         are_small(&self.rows, &self.roots)
     }
 
-    /// An equal trigger.
+    /// The same trigger. `Memory` comes where memory is refused.
     pub fn copy(&self, alloc: Global) -> Result<Trigger, Memory>
         ensures { IfOk result (λ trigger. trigger ≡ self.now) }
     {

@@ -6,7 +6,7 @@ use graph_terms::Memory;
 use std::alloc::Global;
 use std::marker::Model;
 
-/// A list of triggers.
+/// A list of at most `u32::MAX` triggers.
 #[derive(Debug, Drop)]
 pub struct Triggers {
     triggers: Vec<Trigger>,
@@ -24,7 +24,7 @@ impl Model for Triggers {
 }
 
 impl Triggers {
-    /// The empty list.
+    /// A list without triggers. Takes no memory.
     pub fn new(alloc: Global) -> Triggers
         ensures { result ≡ [] }
     {
@@ -33,7 +33,7 @@ impl Triggers {
         }
     }
 
-    /// Puts one more last.
+    /// Puts one trigger more at the end. `Memory` comes where memory is refused or the list is full; it is then as before.
     pub fn push(&mut self, trigger: Trigger) -> Result<(), Memory>
         ensures ok { OnOk result (self.new ≡ self.old ++ trigger ∷ []) }
         ensures err { OnErr result (self.new ≡ self.old) }
@@ -45,12 +45,14 @@ impl Triggers {
         Ok(())
     }
 
+    /// How many triggers it has: at most `u32::MAX`.
     pub fn len(&self) -> u32
         ensures { result ≡ length self.now }
     {
         self.triggers.len() as u32
     }
 
+    /// The trigger at the place `i`, counted from 0. The caller sees that it is below `len()`.
     pub fn get(&self, i: u32) -> &Trigger
         requires { i < length self.now }
         ensures { slice_get self.now i ≡ Some result.now }

@@ -5,20 +5,16 @@ ghost use Rattle.graph_trigger.specs.Validity.{AreApplications, AreNew, AreReach
 
 use crate::pattern_row::PatternRow;
 use crate::pattern_rows::PatternRows;
-use graph_terms::Numbers;
+use graph_terms::{MOST_ARGS, Numbers, are_below};
 
-/// The most parts that a row may have.
-const MOST_PARTS: u32 = 255;
+/// The most variables that a forall may have.
+pub const MOST_VARIABLES: u32 = 32;
+
+/// The most patterns that a trigger may have.
+pub const MOST_PATTERNS: u32 = 16;
 
 /// The most symbols and variables that a pattern may have, counted as a tree.
-const MOST_SIZE: u32 = 256;
-
-/// Whether each number is below the bound.
-fn are_below(numbers: &[u32], bound: u32) -> bool
-    ensures { IsTrue result ↔ All (λ number. number < bound) numbers.now }
-{
-    numbers.iter().all(|number| *number < bound)
-}
+pub const MOST_SIZE: u32 = 256;
 
 /// Whether the number is among these.
 fn contains(numbers: &[u32], number: u32) -> bool
@@ -34,7 +30,7 @@ fn fits_row(row: &PatternRow, place: u32, variables: u32) -> bool
     match row {
         PatternRow::Var { index } => *index < variables,
         PatternRow::App { args, .. } => {
-            args.len() <= MOST_PARTS && are_below(args.as_slice(), place)
+            args.len() <= MOST_ARGS && are_below(args.as_slice(), place)
         }
     }
 }

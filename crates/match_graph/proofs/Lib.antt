@@ -2,3 +2,4 @@ pub mod NthLemmas
 pub mod GatherLemmas
 pub mod StepLemmas
 pub mod RootLemmas
+pub mod EntryLemmas

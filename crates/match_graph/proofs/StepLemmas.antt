@@ -15,18 +15,18 @@ use Rattle.graph_meaning.specs.Standing.{is_push, live_trigger, standing_after, 
 triggers_split : (k : ℕ) (standing : List Done) → triggers_of standing ≡ triggers_of (take k standing) ++ triggers_of (drop k standing)
 triggers_split k standing = ap triggers_of (sym (take-append-drop k standing)) ∙ filter_map-append live_trigger (take k standing) (drop k standing)
 
-triggers_front : (k : ℕ) (standing : List Done) → take (length (triggers_of (take k standing))) (triggers_of standing) ≡ triggers_of (take k standing)
+pub triggers_front : (k : ℕ) (standing : List Done) → take (length (triggers_of (take k standing))) (triggers_of standing) ≡ triggers_of (take k standing)
 triggers_front k standing = ap (take (length (triggers_of (take k standing)))) (triggers_split k standing) ∙ take-append_seam (triggers_of (take k standing)) (triggers_of (drop k standing))
 
 -- a Pop leaves the first live triggers
 pub triggers_popped : (standing : List Done) → take (length (triggers_of (before_last is_push standing))) (triggers_of standing) ≡ triggers_of (before_last is_push standing)
 triggers_popped standing = triggers_front _ standing
 
+pub few_front : (k : ℕ) (standing : List Done) → length (triggers_of (take k standing)) ≤ length (triggers_of standing)
+few_front k standing = omega (arith, ap length (triggers_split k standing), length-append (triggers_of (take k standing)) (triggers_of (drop k standing)))
+
 pub few_popped : (standing : List Done) → length (triggers_of (before_last is_push standing)) ≤ length (triggers_of standing)
-few_popped standing = few _
-  where
-    few : (k : ℕ) → length (triggers_of (take k standing)) ≤ length (triggers_of standing)
-    few k = omega (arith, ap length (triggers_split k standing), length-append (triggers_of (take k standing)) (triggers_of (drop k standing)))
+few_popped standing = few_front _ standing
 
 -- an operation that makes no trigger live, and is no Pop, leaves all of them
 pub triggers_kept : (standing : List Done) (serial : ℕ) (op : Op) → ((trigger : Trigger) → op ≢ Live trigger) → op ≢ Pop → triggers_of (standing_after standing serial op) ≡ triggers_of standing

@@ -1,2 +1,4 @@
 pub mod Gathering
 pub mod GraphInside
+pub mod GraphTerms
+pub mod GraphTermsLaws

@@ -1,17 +1,22 @@
 //! The graph with the codes of its live triggers.
-ghost use Rattle.std.specs.Prelude.{◌≡◌, ◌≤◌, ◌<◌, ◌↔◌, length, slice_get, Some, IsOk, IfOk, OnOk, OnErr, IsTrue};
+ghost use Rattle.std.specs.Prelude.{◌≡◌, ◌≢◌, ◌≤◌, ◌<◌, ◌↔◌, length, slice_get, Some, All, IsOk, IfOk, IfErr, OnOk, OnErr, IsTrue};
+ghost use Rattle.graph_meaning.specs.declared.op.Op.{Op as SpecOp};
 ghost use Rattle.graph_meaning.specs.declared.op.Op.TheVariants.{Live as LiveOp, Pop as PopOp};
 ghost use Rattle.graph_trigger.specs.declared.trigger.Trigger.{Trigger};
 ghost use Rattle.graph_meaning.specs.Lawful.{Allows};
 ghost use Rattle.graph_meaning.specs.Match.{AreMatches};
 ghost use Rattle.graph_meaning.specs.Standing.{terms_of, triggers_of, levels_of};
-ghost use Rattle.graph_meaning.specs.State.{first_state, state_after, table_of, IsFullFor};
+ghost use Rattle.graph_meaning.specs.State.{GraphState, first_state, state_after, table_of, IsFullFor};
+ghost use Rattle.graph_terms.specs.Terms.{term_row};
+ghost use Rattle.graph_terms.specs.TermEntry.{AddGrows, AddFails};
+ghost use Rattle.graph_congruence.specs.Operations.{CanTakeBack, taken_back};
+ghost use Rattle.match_graph.specs.GraphTerms.{with_terms};
 ghost use Rattle.graph_trigger.specs.Trigger.{IsValid};
 
 use crate::matches::matches_of;
 use graph_congruence::Graph;
 use graph_meaning::{ClassGraph, Front, Op};
-use graph_terms::{Memory, Numbers, TableFault, TermRow};
+use graph_terms::{Memory, Numbers, TableFault, TermEntry, TermRow};
 use graph_trigger::Trigger;
 use match_forest::CodeForest;
 use std::alloc::Global;
@@ -75,8 +80,19 @@ impl MatchingGraph {
         self.graph.lawful(op)
     }
 
+    /// The term of the row, which is added last where it is new.
+    fn add_row(&mut self, symbol: u32, args: &[u32]) -> Result<u32, TableFault>
+        requires terms { All (λ arg. arg < length (terms_of self.old.standing)) args.now }
+        requires few { length args.now ≤ 255 }
+        ensures ok { IfOk result (λ term. AddGrows (terms_of self.old.standing) self.old.limit (terms_of self.new.standing) (λ more. self.new ≡ with_terms self.old more) (term_row symbol args.now) term) }
+        ensures fault { IfErr result (λ fault. AddFails (terms_of self.old.standing) self.old.limit (self.new ≡ self.old) (self.new ≡ self.old) (term_row symbol args.now) fault) }
+    {
+        let added = self.graph.add(symbol, args)?;
+        Ok(added.term)
+    }
+
     /// Makes a trigger live. Without memory the graph is as before.
-    fn live(&mut self, trigger: &Trigger) -> Result<(), Memory>
+    pub fn live(&mut self, trigger: &Trigger) -> Result<(), Memory>
         requires { IsValid trigger.now }
         ensures ok { OnOk result (self.new ≡ state_after self.old (LiveOp trigger.now)) }
         ensures err { OnErr result (self.new ≡ self.old) }
@@ -92,12 +108,22 @@ impl MatchingGraph {
         }
     }
 
-    /// Ends the last level that is open, with all that came in it.
-    fn pop(&mut self)
+    /// Ends the last level that is open, with all that came in it. Always succeeds, and takes no memory.
+    pub fn pop(&mut self)
         requires { 0 < levels_of self.old.standing }
         ensures { self.new ≡ state_after self.old PopOp }
     {
         self.graph.pop();
+        self.forest.cut(self.graph.triggers());
+    }
+
+    /// Takes the operation that was done last back: it counts as not done. Always succeeds, and takes no memory.
+    pub fn take_back(&mut self)
+        requires { CanTakeBack self.old }
+        ensures gives { self.new ≡ taken_back self.old }
+        ensures before { (before : GraphState) (op : SpecOp) → op ≢ PopOp → self.old ≡ state_after before op → self.new ≡ before }
+    {
+        self.graph.take_back();
         self.forest.cut(self.graph.triggers());
     }
 
@@ -209,5 +235,33 @@ impl ClassGraph for MatchingGraph {
     fn still_front(&self, front: &Front) -> bool {
         let _forest = &self.forest;
         self.graph.still_front(front)
+    }
+}
+
+impl TermEntry for MatchingGraph {
+    ghost use Rattle.std.proofs.Common.{[], append-nil, sym, ap, ◌∙◌, refl};
+    ghost use Rattle.std.specs.Prelude.{◌≡◌, ◌++◌};
+    ghost use Rattle.graph_meaning.specs.Standing.{terms_of};
+    ghost use Rattle.match_graph.specs.GraphTerms.{with_terms};
+    ghost use Rattle.match_graph.specs.GraphTermsLaws.{terms-with_terms, limit-with_terms, with_terms-both};
+
+    ghost rows = { λ graph. terms_of graph.standing };
+
+    ghost limit = { λ graph. graph.limit };
+
+    ghost grown = { λ earlier later more. later ≡ with_terms earlier more };
+
+    ghost refused = { λ earlier later. later ≡ earlier };
+
+    ghost grown_rows = { λ earlier later more grew. (ap (λ graph. terms_of graph.standing) grew ∙ terms-with_terms earlier more, ap (λ graph. graph.limit) grew ∙ limit-with_terms earlier more) };
+
+    ghost grown_none = { λ state. refl };
+
+    ghost grown_both = { λ first second third more most one two. two ∙ ap (λ graph. with_terms graph most) one ∙ sym (with_terms-both first more most) };
+
+    ghost refused_rows = { λ earlier later same. (([], ap (λ graph. terms_of graph.standing) same ∙ sym (append-nil (terms_of earlier.standing))), ap (λ graph. graph.limit) same) };
+
+    fn add(&mut self, symbol: u32, args: &[u32]) -> Result<u32, TableFault> {
+        self.add_row(symbol, args)
     }
 }

@@ -2,7 +2,6 @@ pub mod NthLemmas
 pub mod StepLemmas
 pub mod SpreadLemmas
 pub mod WalkLemmas
-pub mod OrderLemmas
 pub mod RunLemmas
 pub mod ValueLemmas
 pub mod ParentLemmas

@@ -1,5 +1,4 @@
 pub mod Walk
-pub mod Order
 pub mod Told
 pub mod Answers
 pub mod Runs

@@ -2,7 +2,6 @@
 #![tactic(auto)]
 
 pub mod answer;
-pub mod arrange;
 pub mod batch;
 mod choices;
 pub mod entry_matches;

@@ -4,7 +4,7 @@ ghost use Rattle.std.specs.Prelude.{◌<◌, ◌↔◌, All, IsTrue};
 use super::deed::{Deed, trigger};
 use graph_congruence::{Graph, Unions};
 use graph_meaning::ClassGraph;
-use graph_terms::{Memory, TableFault};
+use graph_terms::{MOST_ARGS, Memory, TableFault, are_below};
 use std::alloc::Global;
 
 /// Whether these are the unions, where it does not matter which end of one stands first.
@@ -24,13 +24,6 @@ fn are_unions(found: &Unions, wanted: &[(u32, u32)]) -> bool {
     true
 }
 
-/// Whether each number is below the bound.
-fn are_below(numbers: &[u32], bound: u32) -> bool
-    ensures { IsTrue result ↔ All (λ number. number < bound) numbers.now }
-{
-    numbers.iter().all(|number| *number < bound)
-}
-
 /// Whether the row comes as the next term, with these unions.
 pub fn adds(
     graph: &mut Graph,
@@ -39,7 +32,7 @@ pub fn adds(
     unions: &[(u32, u32)],
 ) -> Result<bool, TableFault> {
     let terms = graph.len();
-    if args.len() > 255 || !are_below(args, terms) {
+    if args.len() > MOST_ARGS as usize || !are_below(args, terms) {
         return Ok(false);
     }
     let added = graph.add(symbol, args)?;
@@ -48,7 +41,7 @@ pub fn adds(
 
 /// Whether the row stands as this term.
 pub fn finds(graph: &mut Graph, symbol: u32, args: &[u32], term: u32) -> Result<bool, TableFault> {
-    if args.len() > 255 || !are_below(args, graph.len()) {
+    if args.len() > MOST_ARGS as usize || !are_below(args, graph.len()) {
         return Ok(false);
     }
     let added = graph.add(symbol, args)?;

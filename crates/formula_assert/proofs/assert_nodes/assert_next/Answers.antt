@@ -4,4 +4,4 @@ use Rattle.formula_assert.specs.WorkList.{held_now}
 use Rattle.formula_assert.proofs.assert_nodes.assert_next.Goals as goal
 
 pub returns-clause-ok : goal.returns-clause-ok
-returns-clause-ok c = held_now {node = c.node-node.result.now} (λ has. true≢false (sym (c.has.ensures.1 has) ∙ c.if-has.false)) c.node-node.ensures (ap₂ held c.in_ok-do_operations.ensures.ok c.in_ok-put.ensures.ok) c.in_ok-push_conjuncts.ensures
+returns-clause-ok g c = held_now {node = c.node-node.result.now} (λ has. true≢false (sym (c.has.ensures.1 has) ∙ c.if-has.false)) c.node-node.ensures (ap₂ held c.in_ok-do_operations.ensures.ok c.in_ok-put.ensures.ok) c.in_ok-push_conjuncts.ensures

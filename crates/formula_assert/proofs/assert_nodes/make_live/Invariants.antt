@@ -5,4 +5,7 @@ use Rattle.formula_assert.proofs.assert_nodes.make_live.Given as goal
 
 -- the first triggers are live
 abbrev pub invariant-loop-i : goal.invariant-loop-i
-invariant-loop-i l = l.terms ≡ replay l.fn.terms (map Live (take l.i l.triggers))
+invariant-loop-i g l = record {
+  lives : g.G.AssertionGraph.state l.graph ≡ replay (g.G.AssertionGraph.state l.fn.graph) (map Live (take l.i l.triggers));
+  keeps : g.G.AssertionGraph.kept l.fn.graph l.graph;
+}

@@ -1,4 +1,4 @@
-use Rattle.std.proofs.Common.{◌≡◌, ap, sym, ◌∙◌, subst, ℕ, arith, slice_index, Contains, List}
+use Rattle.std.proofs.Common.{subst, ℕ, arith, slice_index, Contains, List}
 use Rattle.graph_classes.proofs.MoveLemmas.{contains_index}
 use Rattle.graph_classes.proofs.signing.signature.Goals as goal
 

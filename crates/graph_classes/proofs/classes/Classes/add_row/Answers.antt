@@ -1,8 +1,8 @@
-use Rattle.std.proofs.Common.{rules, ◌≡◌, ◌≤◌, ◌∙◌, ap, length, ◌++◌, ◌∷◌, []}
+use Rattle.std.proofs.Common.{rules, ◌≡◌, ◌∙◌, ap, ◌++◌, ◌∷◌, []}
 use Rattle.std.proofs.lemmas.Option.{slice_get_within}
 use Rattle.graph_terms.specs.Terms.{term_row}
 use Rattle.graph_classes.specs.declared.change.Change.TheVariants.{Added}
-use Rattle.graph_classes.specs.State.{State, with_row, before_change}
+use Rattle.graph_classes.specs.State.{with_row, before_change}
 use Rattle.graph_classes.specs.History.{now, notes}
 use Rattle.graph_classes.proofs.HistoryLemmas.{one_more, row_undone}
 use Rattle.graph_classes.proofs.classes.Classes.add_row.Goals as goal

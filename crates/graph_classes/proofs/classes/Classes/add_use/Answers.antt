@@ -1,4 +1,4 @@
-use Rattle.std.proofs.Common.{◌≡◌, List, ℕ, OnOk, OnErr, ap, subst, sym, ◌∙◌, slice_set, ◌++◌, ◌∷◌, []}
+use Rattle.std.proofs.Common.{◌≡◌, List, ℕ, OnOk, OnErr, ap, subst, slice_set, ◌++◌, ◌∷◌, []}
 use Rattle.graph_classes.specs.declared.change.Change.TheVariants.{Used}
 use Rattle.graph_classes.specs.State.{list_at, before_change}
 use Rattle.graph_classes.specs.History.{now, notes}

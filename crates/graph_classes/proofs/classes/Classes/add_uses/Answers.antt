@@ -1,7 +1,6 @@
-use Rattle.std.proofs.Common.{◌≡◌, ◌<◌, ap, sym, ◌∙◌, subst, arith, length, List, ℕ, slice_index, take, Contains}
+use Rattle.std.proofs.Common.{◌<◌, ap, sym, ◌∙◌, subst, arith, length, ℕ, slice_index, take}
 use Rattle.graph_classes.specs.State.{State}
 use Rattle.graph_classes.specs.History.{now}
-use Rattle.graph_classes.specs.Indexed.{used}
 use Rattle.graph_classes.proofs.HistoryLemmas.{history_trans}
 use Rattle.graph_classes.proofs.MoveLemmas.{contains_index, take_one_more, read_is}
 use Rattle.graph_classes.proofs.AddLemmas.{length-used, used_more}

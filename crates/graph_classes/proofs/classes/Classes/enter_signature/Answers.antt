@@ -1,8 +1,7 @@
-use Rattle.std.proofs.Common.{rules, refl, ap, ◌∙◌, ◌≡◌, slice_set, ◌++◌, ◌∷◌, [], sym}
+use Rattle.std.proofs.Common.{rules, ap, ◌++◌, ◌∷◌, []}
 use Rattle.graph_classes.specs.declared.change.Change.TheVariants.{Signed}
-use Rattle.graph_classes.specs.State.{State, list_at, before_change}
 use Rattle.graph_classes.specs.History.{now}
-use Rattle.graph_classes.proofs.HistoryLemmas.{kept_history, kept_err, set-back, member_undone}
+use Rattle.graph_classes.proofs.HistoryLemmas.{kept_history}
 use Rattle.graph_classes.proofs.TableLemmas.{take_all_but_last}
 use Rattle.graph_classes.proofs.classes.Classes.enter_signature.Goals as goal
 

@@ -1,8 +1,7 @@
-use Rattle.std.proofs.Common.{◌≡◌, ◌<◌, ap, sym, ◌∙◌, subst, length, List, ℕ, Contains, arith, OnOk, ◌++◌, ◌∷◌, []}
-use Rattle.graph_classes.specs.State.{State, list_at}
+use Rattle.std.proofs.Common.{◌≡◌, ap, sym, ◌∙◌, subst, length, List, ℕ, Contains, OnOk, []}
+use Rattle.graph_classes.specs.State.{State}
 use Rattle.graph_classes.specs.History.{now}
-use Rattle.graph_classes.specs.Indexed.{IsIndexed, IsRelabelled, IsClosing, AreBelow, Between}
-use Rattle.graph_classes.specs.Listed.{IsListed, IsLed}
+use Rattle.graph_classes.specs.Indexed.{IsRelabelled}
 use Rattle.graph_classes.proofs.SigningLemmas.{on_ok, on_both}
 use Rattle.graph_classes.proofs.StandingLemmas.{with_others, IsIndexed-others, IsClosing-others}
 use Rattle.graph_classes.proofs.JoinedListsLemmas.{IsListed-joined}

@@ -1,7 +1,6 @@
-use Rattle.std.proofs.Common.{◌≡◌, ap, sym, subst, List, ℕ, Contains}
+use Rattle.std.proofs.Common.{ap, sym, subst, List, ℕ, Contains}
 use Rattle.graph_classes.specs.State.{State, list_at}
 use Rattle.graph_classes.specs.History.{now}
-use Rattle.graph_classes.proofs.HistoryLemmas.{history_trans}
 use Rattle.graph_classes.proofs.SigningLemmas.{on_ok}
 use Rattle.graph_classes.proofs.ListingLemmas.{ListsMore-trans, IsMemberListed-more, rows_same}
 use Rattle.graph_classes.proofs.classes.Classes.list_class.Goals as goal

@@ -4,7 +4,7 @@ use Rattle.graph_classes.specs.History.{now}
 use Rattle.graph_classes.specs.Listed.{ListsMore, IsMemberListed}
 use Rattle.graph_classes.proofs.HistoryLemmas.{history_trans, same_history}
 use Rattle.graph_classes.proofs.MoveLemmas.{read_at, count_at, contains_index}
-use Rattle.graph_classes.proofs.ListingLemmas.{ListsMore-none, ListsMore-trans, IsMemberListed-more, listed_more, listed_all, listed_none, rows_same, labels_same}
+use Rattle.graph_classes.proofs.ListingLemmas.{ListsMore-none, ListsMore-trans, IsMemberListed-more, listed_more, listed_all, listed_none, rows_same}
 use Rattle.graph_classes.proofs.classes.Classes.list_members.Goals as goal
 
 -- the lists of terms are as they were

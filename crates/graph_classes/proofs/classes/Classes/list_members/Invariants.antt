@@ -1,4 +1,4 @@
-use Rattle.std.proofs.Common.{◌<◌, length, List, ℕ, take, Contains}
+use Rattle.std.proofs.Common.{ℕ, take, Contains}
 use Rattle.graph_classes.specs.State.{list_at}
 use Rattle.graph_classes.specs.History.{now, KeepsHistory}
 use Rattle.graph_classes.specs.Listed.{ListsMore, IsMemberListed}

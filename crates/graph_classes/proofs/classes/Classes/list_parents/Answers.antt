@@ -1,4 +1,4 @@
-use Rattle.std.proofs.Common.{◌≡◌, ◌<◌, length, ap, sym, ◌∙◌, subst, arith, ℕ, refl, slice_get}
+use Rattle.std.proofs.Common.{◌≡◌, length, ap, ◌∙◌, subst, arith, ℕ, refl, slice_get}
 use Rattle.graph_terms.specs.declared.term_row.TermRow.{TermRow}
 use Rattle.graph_classes.specs.History.{now}
 use Rattle.graph_classes.proofs.HistoryLemmas.{history_trans, same_history}

@@ -1,10 +1,9 @@
-use Rattle.std.proofs.Common.{◌≡◌, ◌∙◌, ap, subst, sym, refl, Some, None, Option, ℕ, insert, OnOk, OnErr, ◌++◌, ◌∷◌, []}
+use Rattle.std.proofs.Common.{◌≡◌, ◌∙◌, ap, subst, refl, Some, None, Option, ℕ, insert, OnOk, OnErr, ◌++◌, ◌∷◌, []}
 use Rattle.graph_classes.specs.declared.change.Change.TheVariants.{Listed}
 use Rattle.graph_classes.specs.Lists.{EntersAt, with_list}
 use Rattle.graph_classes.specs.Shown.{lists_in}
 use Rattle.graph_classes.specs.State.{State, before_change}
 use Rattle.graph_classes.specs.History.{now, notes}
-use Rattle.graph_classes.specs.Listed.{IsListing}
 use Rattle.graph_classes.proofs.HistoryLemmas.{same_history, kept_history, kept_err}
 use Rattle.graph_classes.proofs.SigningLemmas.{on_ok, on_err}
 use Rattle.graph_classes.proofs.ListsLemmas.{entry_undone, IsListing-entered, IsListing-there}

@@ -1,7 +1,8 @@
-use Rattle.std.proofs.Common.{◌≡◌, ◌<◌, ap, sym, ◌∙◌, subst, length, List, ℕ, Contains, arith, slice_set, ◌++◌}
+use Rattle.std.proofs.Common.{ap, sym, ◌∙◌, subst, length, List, ℕ, Contains, arith, slice_set, ◌++◌}
 use Rattle.graph_classes.specs.State.{State, list_at}
 use Rattle.graph_classes.specs.History.{now}
-use Rattle.graph_classes.specs.Indexed.{IsIndexed, IsSignable, IsRelabelled, IsClosing, AreBelow, moved, written}
+use Rattle.graph_classes.specs.Indexed.{IsSignable, IsRelabelled, IsClosing}
+use Rattle.graph_meaning.specs.Lawful.{EndsBelow}
 use Rattle.graph_classes.proofs.MoveLemmas.{list_at-other}
 use Rattle.graph_classes.proofs.JoinLemmas.{IsRelabelled-written, IsIndexed-joined, IsClosing-moved, IsSignable-moved}
 use Rattle.graph_classes.proofs.classes.Classes.move_class.Goals as goal
@@ -45,7 +46,7 @@ returns-clause-indexed c =
 pub returns-clause-pending_in : goal.returns-clause-pending_in
 returns-clause-pending_in c =
     let rows = ap (λ (s : State). s.rows) c.in_ok-relabel.ensures.ok in
-    let P : ℕ → Type 0 = λ n. AreBelow n c.sign_uses.new.pending.items in
+    let P : ℕ → Type 0 = λ n. EndsBelow c.sign_uses.new.pending.items n in
     subst P (ap length rows) c.in_ok-sign_uses.ensures.pending_in
 
 pub returns-clause-closing : goal.returns-clause-closing

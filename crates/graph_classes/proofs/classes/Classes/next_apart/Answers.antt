@@ -1,4 +1,4 @@
-use Rattle.std.proofs.Common.{◌≡◌, arith, sym, ◌∙◌}
+use Rattle.std.proofs.Common.{arith, sym, ◌∙◌}
 use Rattle.graph_classes.specs.History.{now as state_now}
 use Rattle.graph_classes.proofs.MoveLemmas.{read_is}
 use Rattle.graph_classes.proofs.PendingLemmas.{last_in, rest_in, IsClosing-dropped}

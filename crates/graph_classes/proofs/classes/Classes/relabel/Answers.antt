@@ -1,7 +1,6 @@
-use Rattle.std.proofs.Common.{◌≡◌, ◌<◌, ◌+◌, ap, sym, ◌∙◌, subst, arith, slice_index, slice_index_or, length, List, ℕ, ◌++◌, ◌∷◌, [], take, Contains, slice_set}
+use Rattle.std.proofs.Common.{◌<◌, ap, sym, ◌∙◌, subst, arith, length, ℕ, take, Contains, slice_set}
 use Rattle.graph_classes.specs.State.{State, list_at}
 use Rattle.graph_classes.specs.History.{now}
-use Rattle.graph_classes.specs.Indexed.{moved}
 use Rattle.graph_classes.proofs.HistoryLemmas.{history_trans}
 use Rattle.graph_classes.proofs.MoveLemmas.{moving_item, count_at, contains_index, length-written, take_one_more, moved_more}
 use Rattle.graph_classes.proofs.classes.Classes.relabel.Goals as goal

@@ -1,4 +1,4 @@
-use Rattle.std.proofs.Common.{◌≡◌, take, length}
+use Rattle.std.proofs.Common.{◌≡◌, take}
 use Rattle.graph_classes.specs.State.{list_at}
 use Rattle.graph_classes.specs.History.{now, KeepsHistory}
 use Rattle.graph_classes.specs.Indexed.{moved}

@@ -1,9 +1,7 @@
-use Rattle.std.proofs.Common.{rules, refl, ap, ◌∙◌, ◌≡◌, slice_set, ◌++◌, ◌∷◌, [], sym}
+use Rattle.std.proofs.Common.{rules, ap, ◌∙◌, slice_set}
 use Rattle.graph_classes.specs.declared.change.Change.TheVariants.{Led}
-use Rattle.graph_classes.specs.State.{State, list_at, before_change}
 use Rattle.graph_classes.specs.History.{now}
-use Rattle.graph_classes.proofs.HistoryLemmas.{kept_history, kept_err, set-back, member_undone}
-use Rattle.graph_classes.proofs.TableLemmas.{take_all_but_last}
+use Rattle.graph_classes.proofs.HistoryLemmas.{kept_history, kept_err, set-back}
 use Rattle.graph_classes.proofs.classes.Classes.set_leader.Goals as goal
 
 pub returns-clause-err : goal.returns-clause-err

@@ -1,8 +1,9 @@
-use Rattle.std.proofs.Common.{◌≡◌, ◌<◌, ap, sym, ◌∙◌, subst, length, List, ℕ, refl, [], ◌∷◌, ◌++◌, slice_index, arith}
+use Rattle.std.proofs.Common.{◌≡◌, ap, sym, ◌∙◌, subst, length, List, ℕ, refl, [], ◌∷◌, ◌++◌, slice_index}
 use Rattle.graph_meaning.specs.declared.union.Union.{Union}
 use Rattle.graph_classes.specs.History.{now as state_now}
-use Rattle.graph_classes.specs.Indexed.{AreBelow, HaveOneLabel}
-use Rattle.graph_classes.specs.Unions.{AreUnions, union_of}
+use Rattle.graph_classes.specs.Indexed.{HaveOneLabel}
+use Rattle.graph_meaning.specs.Lawful.{EndsBelow}
+use Rattle.graph_meaning.specs.Unions.{AreUnions, union_of}
 use Rattle.graph_classes.proofs.HistoryLemmas.{history_trans, same_history}
 use Rattle.graph_classes.proofs.MoveLemmas.{read_is}
 use Rattle.graph_classes.proofs.UnionLemmas.{no_unions}
@@ -11,7 +12,7 @@ use Rattle.graph_classes.proofs.classes.Classes.settle.Goals as goal
 
 pub loop-left-init : goal.loop-left-init
 loop-left-init c =
-    let Q : List Union → Type 0 = λ us. AreUnions (HaveOneLabel (length c.args.self.now.parts.rows.rows) c.args.self.now.parts.labels.items) (HaveOneLabel (length c.args.self.now.parts.rows.rows) c.args.self.now.parts.labels.items) us in
+    let Q : List Union → Type 0 = λ us. AreUnions (length c.args.self.now.parts.rows.rows) (HaveOneLabel (length c.args.self.now.parts.rows.rows) c.args.self.now.parts.labels.items) (HaveOneLabel (length c.args.self.now.parts.rows.rows) c.args.self.now.parts.labels.items) us in
     record {
       rows = refl;
       log = refl;
@@ -38,15 +39,15 @@ loop-left-preserved c =
     let pushed : c.push.new.self ≡ c.loop-left.unions ++ union_of (slice_index c.loop-left.self.parts.leaders.items c.index-left_label.result.now) (slice_index c.loop-left.self.parts.leaders.items c.index-right_label.result.now) ∷ [] =
     c.in_ok-push.ensures.ok ∙ ap (λ l. c.loop-left.unions ++ union_of l c.index-in-Some.result.now ∷ []) (sym left_leader)
     ∙ ap (λ r. c.loop-left.unions ++ union_of (slice_index c.loop-left.self.parts.leaders.items c.index-left_label.result.now) r ∷ []) (sym right_leader) in
-    let Q : List Union → Type 0 = λ us. AreUnions (HaveOneLabel (length c.loop-left.self.parts.rows.rows) c.args.self.now.parts.labels.items) (HaveOneLabel (length c.loop-left.self.parts.rows.rows) c.join_labels.new.self.parts.labels.items) us in
-    let R : ℕ → Type 0 = λ n. AreUnions (HaveOneLabel n c.args.self.now.parts.labels.items) (HaveOneLabel n c.join_labels.new.self.parts.labels.items) c.push.new.self in
+    let Q : List Union → Type 0 = λ us. AreUnions (length c.loop-left.self.parts.rows.rows) (HaveOneLabel (length c.loop-left.self.parts.rows.rows) c.args.self.now.parts.labels.items) (HaveOneLabel (length c.loop-left.self.parts.rows.rows) c.join_labels.new.self.parts.labels.items) us in
+    let R : ℕ → Type 0 = λ n. AreUnions n (HaveOneLabel n c.args.self.now.parts.labels.items) (HaveOneLabel n c.join_labels.new.self.parts.labels.items) c.push.new.self in
     record {
       rows = c.in_ok-join_labels.ensures.rows ∙ c.loop-left.invariant.rows;
       log = c.in_ok-join_labels.ensures.log ∙ c.loop-left.invariant.log;
       limit = c.in_ok-join_labels.ensures.limit ∙ c.loop-left.invariant.limit;
       indexed = c.in_ok-join_labels.ensures.indexed;
       listed = c.in_ok-join_labels.ensures.listed;
-      pending_in = let P : ℕ → Type 0 = λ n. AreBelow n c.join_labels.new.pending.items in subst P (sym (ap length c.in_ok-join_labels.ensures.rows)) c.in_ok-join_labels.ensures.pending_in;
+      pending_in = let P : ℕ → Type 0 = λ n. EndsBelow c.join_labels.new.pending.items n in subst P (sym (ap length c.in_ok-join_labels.ensures.rows)) c.in_ok-join_labels.ensures.pending_in;
       closing = λ merges before. c.in_ok-join_labels.ensures.closing merges c.in-Some.left c.in-Some.right c.in-Some.ensures.first_in c.in-Some.ensures.second_in left.0 right.0 (c.in-Some.ensures.closing merges (c.loop-left.invariant.closing merges before));
       unions = subst R (sym (ap length c.in_ok-join_labels.ensures.rows)) (subst Q (sym pushed) step);
       history = history_trans _ _ _ c.loop-left.invariant.history c.in_ok-join_labels.ensures.history;

@@ -1,11 +1,10 @@
-use Rattle.std.proofs.Common.{◌≡◌, ◌<◌, ◌++◌, ◌∷◌, [], ap, sym, ◌∙◌, subst, ℕ, arith, Some, None, slice_get, Contains, List, length, refl, Option}
-use Rattle.std.proofs.lemmas.Option.{slice_get_read}
+use Rattle.std.proofs.Common.{◌≡◌, ◌++◌, ◌∷◌, [], ap, sym, ◌∙◌, subst, ℕ, arith, Some, None, List, length, Option}
 use Rattle.graph_terms.specs.declared.term_row.TermRow.{TermRow}
 use Rattle.graph_classes.specs.Closure.{signature, found}
 use Rattle.graph_classes.specs.State.{State}
 use Rattle.graph_classes.specs.History.{now}
-use Rattle.graph_classes.specs.Indexed.{IsSignable, IsClosing, AreBelow}
-use Rattle.graph_classes.proofs.SigningLemmas.{on_ok, pushed_items, AreBelow-push, found_in, IsClosing-found, IsClosing-new, IsSignable-new}
+use Rattle.graph_classes.specs.Indexed.{IsSignable, IsClosing}
+use Rattle.graph_classes.proofs.SigningLemmas.{on_ok, EndsBelow-push, found_in, IsClosing-found, IsClosing-new, IsSignable-new}
 use Rattle.graph_classes.proofs.classes.Classes.sign.Goals as goal
 
 found_is : (table : List (List ℕ × ℕ)) (labels ls key k : List ℕ) (row : TermRow) (r o : Option ℕ) → r ≡ found table k → r ≡ o → k ≡ key → key ≡ signature ls row → ls ≡ labels → found table (signature labels row) ≡ o
@@ -22,7 +21,7 @@ returns-in_ok-push-in-Some-clause-pending_in c =
     let is_row = c.row-row.ensures in
     let is_found = found_is c.args.self.now.parts.table c.args.self.now.parts.labels.items _ _ _ c.row-row.result.now _ (Some c.in-Some.same) c.find.ensures c.in-Some.is c.as_slice-2.ensures.value c.in_ok-key.ensures c.as_slice.ensures.value in
     let new = c.in_ok-push-in-Some.ensures.items in
-    rw new (AreBelow-push _ c.args.pending.now.items c.args.term c.in-Some.same c.requires.pending_in c.requires.term_in (found_in (now c.args.self.now) c.args.pending.now.items c.args.term c.row-row.result.now c.requires.signable is_row c.in-Some.same is_found))
+    rw new (EndsBelow-push _ c.args.pending.now.items c.args.term c.in-Some.same c.requires.pending_in c.requires.term_in (found_in (now c.args.self.now) c.args.pending.now.items c.args.term c.row-row.result.now c.requires.signable is_row c.in-Some.same is_found))
 
 pub returns-in_ok-push-in-Some-clause-closing : goal.returns-in_ok-push-in-Some-clause-closing
 returns-in_ok-push-in-Some-clause-closing c =

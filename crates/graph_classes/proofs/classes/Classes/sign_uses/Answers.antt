@@ -1,7 +1,8 @@
-use Rattle.std.proofs.Common.{◌≡◌, ◌<◌, ◌+◌, ap, sym, ◌∙◌, subst, arith, slice_index, length, List, ℕ, ◌++◌, ◌∷◌, [], take, drop, Contains, slice_set}
+use Rattle.std.proofs.Common.{◌≡◌, ◌<◌, ◌+◌, ap, sym, ◌∙◌, subst, arith, length, List, ℕ, ◌∷◌, take, drop, Contains}
 use Rattle.graph_classes.specs.State.{State, list_at}
 use Rattle.graph_classes.specs.History.{now}
-use Rattle.graph_classes.specs.Indexed.{AreBelow, IsClosing}
+use Rattle.graph_classes.specs.Indexed.{IsClosing}
+use Rattle.graph_meaning.specs.Lawful.{EndsBelow}
 use Rattle.graph_classes.proofs.HistoryLemmas.{history_trans}
 use Rattle.graph_classes.proofs.MoveLemmas.{moving_item, count_at, contains_index, take_one_more}
 use Rattle.graph_classes.proofs.UsesLemmas.{IsSignable-uses, IsClosing-uses, HasUsesMoved-more, drop_one}
@@ -37,7 +38,7 @@ loop-i-preserved c =
     record {
       so_far = rw (taken, ← item) (HasUsesMoved-more (now c.args.self.now) (now c.loop-i.self) (now c.add_use.new.self) (now c.sign.new.self) (take c.loop-i.i moving) c.get-term.result c.args.into _ c.requires.into_in
           c.loop-i.invariant.so_far c.in_ok-add_use.ensures.ok c.in_ok-sign.ensures.table_alone c.in_ok-sign.ensures.signable);
-      pending_in = let P : ℕ → Type 0 = λ n. AreBelow n c.sign.new.pending.items in subst P (ap length rows) c.in_ok-sign.ensures.pending_in;
+      pending_in = let P : ℕ → Type 0 = λ n. EndsBelow c.sign.new.pending.items n in subst P (ap length rows) c.in_ok-sign.ensures.pending_in;
       closing = λ merges before.
           let P : List ℕ → Type 0 = λ ts. IsClosing merges (now c.loop-i.self) c.loop-i.pending.items ts in
           let here = subst P left (c.loop-i.invariant.closing merges before) in

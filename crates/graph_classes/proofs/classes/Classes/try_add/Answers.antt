@@ -1,14 +1,14 @@
-use Rattle.std.proofs.Common.{◌≡◌, ◌<◌, ◌≤◌, ap, sym, ◌∙◌, subst, List, ℕ, [], ◌∷◌, ◌++◌, length, All, Contains, arith, append-nil}
+use Rattle.std.proofs.Common.{◌≡◌, ◌<◌, ap, sym, ◌∙◌, subst, List, ℕ, [], ◌∷◌, length, All, Contains, append-nil}
 use Rattle.std.proofs.lemmas.List.Elements.{All-contains}
 use Rattle.graph_terms.specs.declared.term_row.TermRow.{TermRow}
 use Rattle.graph_meaning.specs.declared.done.Done.{Done}
 use Rattle.graph_meaning.specs.declared.op.Op.TheVariants.{Add as AddOp}
 use Rattle.graph_terms.specs.Terms.{term_row}
-use Rattle.graph_meaning.specs.Standing.{terms_of, merges_of}
-use Rattle.graph_meaning.specs.LawfulLaws.{then_op}
+use Rattle.graph_meaning.specs.Standing.{terms_of, merges_of, then_op}
 use Rattle.graph_classes.specs.State.{State}
 use Rattle.graph_classes.specs.History.{now}
-use Rattle.graph_classes.specs.Indexed.{IsClosing, AreBelow}
+use Rattle.graph_classes.specs.Indexed.{IsClosing}
+use Rattle.graph_meaning.specs.Lawful.{EndsBelow}
 use Rattle.graph_classes.proofs.AddLemmas.{IsIndexed-table}
 use Rattle.graph_classes.proofs.AddStateLemmas.{indexed_six, listed_six, closing_six, rows_six, rows_as_two, limit_as_two, limit_six, log_six, IsListed-table, IsSignable-indexed}
 use Rattle.graph_classes.proofs.OperationLemmas.{IsGood-after}
@@ -34,7 +34,7 @@ settle-requires-clause-listed c = IsListed-table (now c.list_parents.new.self) (
 
 pub settle-requires-clause-pending_in : goal.settle-requires-clause-pending_in
 settle-requires-clause-pending_in c =
-    let P : ℕ → Type 0 = λ n. AreBelow n c.sign.new.pending.items in
+    let P : ℕ → Type 0 = λ n. EndsBelow c.sign.new.pending.items n in
     subst P (sym (ap (λ (s : State). length s.rows) c.in_ok-sign.ensures.table_alone)) c.in_ok-sign.ensures.pending_in
 
 pub returns-clause-good : goal.returns-clause-good

@@ -1,9 +1,8 @@
 use Rattle.std.proofs.Common.{◌≡◌, ◌<◌, ap, sym, ◌∙◌, subst, List, ℕ, [], ◌∷◌, ◌++◌, length, OnOk}
 use Rattle.graph_meaning.specs.declared.op.Op.TheVariants.{Merge as MergeOp}
 use Rattle.graph_terms.specs.declared.term_row.TermRow.{TermRow}
-use Rattle.graph_meaning.specs.Standing.{merges_of}
-use Rattle.graph_meaning.specs.LawfulLaws.{then_op}
-use Rattle.graph_classes.specs.Unions.{AreUnions}
+use Rattle.graph_meaning.specs.Standing.{merges_of, then_op}
+use Rattle.graph_meaning.specs.Unions.{AreUnions}
 use Rattle.graph_classes.specs.State.{State}
 use Rattle.graph_classes.specs.History.{now}
 use Rattle.graph_classes.specs.Indexed.{IsClosing, HaveOneLabel}
@@ -46,6 +45,6 @@ returns-clause-unions c =
     let labels = ap (λ (s : State). s.labels) c.in_ok-enter_done.ensures.ok in
     let rows = ap (λ (s : State). length s.rows) c.in_ok-enter_done.ensures.ok in
     if_ok _ _ c.settle.result (λ us are.
-    let P : List ℕ → Type 0 = λ ls. AreUnions (HaveOneLabel (length c.args.self.now.parts.rows.rows) ls) (HaveOneLabel (length c.args.self.now.parts.rows.rows) c.settle.new.self.parts.labels.items) us in
-    let Q : ℕ → Type 0 = λ n. AreUnions (HaveOneLabel n c.enter_done.new.self.parts.labels.items) (HaveOneLabel n c.settle.new.self.parts.labels.items) us in
+    let P : List ℕ → Type 0 = λ ls. AreUnions (length c.args.self.now.parts.rows.rows) (HaveOneLabel (length c.args.self.now.parts.rows.rows) ls) (HaveOneLabel (length c.args.self.now.parts.rows.rows) c.settle.new.self.parts.labels.items) us in
+    let Q : ℕ → Type 0 = λ n. AreUnions n (HaveOneLabel n c.enter_done.new.self.parts.labels.items) (HaveOneLabel n c.settle.new.self.parts.labels.items) us in
     subst P labels (subst Q rows are)) c.settle.ensures.unions

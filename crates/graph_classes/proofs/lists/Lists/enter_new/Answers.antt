@@ -1,4 +1,4 @@
-use Rattle.std.proofs.Common.{◌≡◌, ◌∙◌, ap, sym, subst, Some, List, ℕ, refl}
+use Rattle.std.proofs.Common.{◌∙◌, ap, sym, subst, Some, List, ℕ, refl}
 use Rattle.graph_classes.specs.Shown.{lists_in}
 use Rattle.graph_classes.specs.Lists.{with_list}
 use Rattle.graph_classes.specs.Rising.{Enters}

@@ -1,4 +1,4 @@
-use Rattle.std.proofs.Common.{◌≡◌, ◌∙◌, ap, sym, subst, Some, None, Option, List, ℕ, remove, IsSome, refl}
+use Rattle.std.proofs.Common.{◌∙◌, ap, sym, subst, Some, None, Option, List, ℕ, remove, IsSome, refl}
 use Rattle.std.specs.Option.{option_copied_mut}
 use Rattle.graph_classes.specs.Shown.{lists_in}
 use Rattle.graph_classes.specs.Lists.{with_list}

@@ -1,5 +1,3 @@
-use Rattle.std.proofs.Common.{◌≡◌, AllPairs, List, ℕ, ◌<◌, ◌≤◌, subst, sym, arith, insert, slice_index_or}
-use Rattle.std.proofs.lemmas.List.Sorted.{searched}
 use Rattle.graph_classes.proofs.RisingLemmas.{AllPairs-entered, unchanged}
 use Rattle.graph_classes.proofs.rising.Rising.enter.Goals as goal
 

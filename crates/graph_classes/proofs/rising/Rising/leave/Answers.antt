@@ -1,4 +1,4 @@
-use Rattle.std.proofs.Common.{◌≡◌, AllPairs, List, ℕ, ◌<◌, subst, sym}
+use Rattle.std.proofs.Common.{AllPairs, List, ℕ, ◌<◌, subst, sym}
 use Rattle.graph_classes.proofs.RisingLemmas.{AllPairs-remove}
 use Rattle.graph_classes.proofs.rising.Rising.leave.Goals as goal
 

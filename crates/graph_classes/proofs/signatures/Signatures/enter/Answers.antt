@@ -1,4 +1,4 @@
-use Rattle.std.proofs.Common.{◌∙◌, ap, ◌∷◌, [], ◌++◌, nat_eq}
+use Rattle.std.proofs.Common.{◌∙◌, ap, ◌∷◌, [], ◌++◌}
 use Rattle.graph_classes.specs.Table.{found, shown_entries}
 use Rattle.graph_classes.proofs.TableLemmas.{lookup_shown, shown-append}
 use Rattle.indexmap.proofs.CallerLemmas.{insert_entry-new}

@@ -1,6 +1,4 @@
-use Rattle.std.proofs.Common.{◌∙◌, ap, ◌∷◌, [], ◌++◌, length, take, ◌-◌, arith}
-use Rattle.std.proofs.lemmas.Grind.{common_steps}
-use Rattle.graph_classes.specs.Table.{found, shown_entries}
+use Rattle.std.proofs.Common.{◌∙◌, ap, length, take, ◌-◌}
 use Rattle.graph_classes.proofs.TableLemmas.{shown_shorter}
 use Rattle.graph_classes.proofs.signatures.Signatures.shorten.Goals as goal
 

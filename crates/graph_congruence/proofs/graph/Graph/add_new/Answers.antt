@@ -1,12 +1,10 @@
-use Rattle.std.proofs.Common.{ap, sym, refl, arith, length, append-nil, subst}
+use Rattle.std.proofs.Common.{ap, sym, refl, arith, append-nil, subst}
 use Rattle.graph_meaning.specs.declared.op.Op.TheVariants.{Add as AddOp}
-use Rattle.graph_meaning.specs.Same.{Same}
-use Rattle.graph_meaning.specs.Standing.{terms_of, levels_of}
+use Rattle.graph_meaning.specs.Standing.{levels_of}
 use Rattle.graph_meaning.specs.State.{GraphState}
 use Rattle.graph_classes.specs.History.{now}
 use Rattle.graph_terms.specs.Terms.{term_row}
-use Rattle.graph_congruence.specs.Operations.{WasSame}
-use Rattle.graph_classes.specs.Unions.{AreUnions}
+use Rattle.graph_meaning.specs.Unions.{ListsUnions}
 use Rattle.graph_congruence.proofs.LastLemmas.{triggers_after, apart_after}
 use Rattle.graph_congruence.proofs.StartLemmas.{AreStarts-after, levels_after}
 use Rattle.graph_congruence.proofs.MeaningLemmas.{AreUnions-added}
@@ -30,5 +28,5 @@ invariant_of-self-2 c =
 
 pub returns-clause-unions : goal.returns-clause-unions
 returns-clause-unions c =
-    let P : GraphState → Type 0 = λ g. AreUnions (WasSame g.standing (length (terms_of (now c.add.new.self).log))) (Same (now c.add.new.self).log) c.in_ok-added.added.unions in
+    let P : GraphState → Type 0 = λ g. ListsUnions g.standing (now c.add.new.self).log c.in_ok-added.added.unions in
     subst P c.self.view_is (AreUnions-added (now c.self.inside.classes) c.self.invariant.starts.good (now c.add.new.self) (term_row c.args.symbol c.args.args.now) c.in_ok-added.added.unions c.in_ok-added.ensures.good c.in_ok-added.ensures.ok.rows c.in_ok-added.ensures.unions)

@@ -1,11 +1,9 @@
-use Rattle.std.proofs.Common.{◌∙◌, ap, sym, refl, arith, length, append-nil, subst}
+use Rattle.std.proofs.Common.{◌∙◌, ap, sym, refl, arith, append-nil, subst}
 use Rattle.graph_meaning.specs.declared.op.Op.TheVariants.{Merge as MergeOp}
-use Rattle.graph_meaning.specs.Same.{Same}
-use Rattle.graph_meaning.specs.Standing.{terms_of, levels_of}
+use Rattle.graph_meaning.specs.Standing.{levels_of}
 use Rattle.graph_meaning.specs.State.{GraphState}
 use Rattle.graph_classes.specs.History.{now}
-use Rattle.graph_congruence.specs.Operations.{WasSame}
-use Rattle.graph_classes.specs.Unions.{AreUnions}
+use Rattle.graph_meaning.specs.Unions.{ListsUnions}
 use Rattle.graph_congruence.proofs.LastLemmas.{triggers_after, apart_after}
 use Rattle.graph_congruence.proofs.StartLemmas.{AreStarts-after, levels_after}
 use Rattle.graph_congruence.proofs.MeaningLemmas.{AreUnions-same}
@@ -29,5 +27,5 @@ invariant_of-self-2 c =
 
 pub returns-clause-unions : goal.returns-clause-unions
 returns-clause-unions c =
-    let P : GraphState → Type 0 = λ g. AreUnions (WasSame g.standing (length (terms_of g.standing))) (Same (now c.merge.new.self).log) c.in_ok-unions.unions in
+    let P : GraphState → Type 0 = λ g. ListsUnions g.standing (now c.merge.new.self).log c.in_ok-unions.unions in
     subst P c.self.view_is (AreUnions-same (now c.self.inside.classes) (now c.merge.new.self) c.in_ok-unions.unions c.self.invariant.starts.good c.in_ok-unions.ensures.good (c.in_ok-unions.ensures.ok.rows ∙ append-nil (now c.self.inside.classes).rows) c.in_ok-unions.ensures.unions)

@@ -6,10 +6,10 @@ use Rattle.graph_terms.specs.Terms.{term_row, HasRow, IsAbsent}
 use Rattle.graph_terms.proofs.TableLemmas.{found_row, absent_row, absent-long, not_some}
 use Rattle.graph_terms.proofs.table.TermTable.find.Goals as goal
 
-pub returns-then-args-gt-MOST_ARGS-clause-absent : goal.returns-then-args-gt-MOST_ARGS-clause-absent
-returns-then-args-gt-MOST_ARGS-clause-absent c =
+pub returns-then-args-clause-absent : goal.returns-then-args-clause-absent
+returns-then-args-clause-absent c =
     subst (λ table. IsAbsent table.rows (term_row c.args.symbol c.args.args.now)) c.self.view_is
-    (absent-long _ c.args.symbol c.args.args.now c.self.invariant.is_table c.if-args-gt-MOST_ARGS.true)
+    (absent-long _ c.args.symbol c.args.args.now c.self.invariant.is_table c.if-args.true)
 
 pub returns-in-Some-clause-found : goal.returns-in-Some-clause-found
 returns-in-Some-clause-found c =

@@ -1,8 +1,8 @@
 use Rattle.std.proofs.Common.{ℕ, List, Contains, sym, subst}
 use Rattle.std.proofs.lemmas.List.Sorted.{Contains-permutation, IsPermutation-sym}
 use Rattle.graph_meaning.specs.Match.{InOrder}
-use Rattle.match_machine.proofs.OrderLemmas.{order_of_dedup, kept_by_dedup}
-use Rattle.match_machine.proofs.arrange.arrange.Goals as goal
+use Rattle.graph_meaning.proofs.OrderLemmas.{order_of_dedup, kept_by_dedup}
+use Rattle.graph_meaning.proofs.arrange.arrange.Goals as goal
 
 pub returns-clause-in_order : goal.returns-clause-in_order
 returns-clause-in_order c = subst InOrder (sym c.keep_one.ensures) (order_of_dedup c.sort.new.lists.items c.in_ok-sort.ensures.sorted)

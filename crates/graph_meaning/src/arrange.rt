@@ -1,11 +1,11 @@
-//! Lists in order, each once.
+//! Lists of numbers in lexicographic order, each once.
 ghost use Rattle.std.specs.Prelude.{◌≡◌, ℕ, List, ◌↔◌, Contains, OnOk, IsPermutation};
 ghost use Rattle.std.specs.Ordering.{nat_cmp};
 ghost use Rattle.std.specs.Cmp.Lexicographic.{slice_cmp};
 ghost use Rattle.std.specs.List.{dedup};
 ghost use Rattle.std.specs.List.Sorted.{IsSorted};
 ghost use Rattle.graph_meaning.specs.Match.{InOrder};
-ghost use Rattle.match_machine.specs.Order.{same_list};
+ghost use Rattle.graph_meaning.specs.Order.{same_list};
 
 use graph_terms::{Memory, Numbers};
 
@@ -25,7 +25,8 @@ fn keep_one(lists: &mut Vec<Numbers>)
     lists.dedup_by(|a, b| a.as_slice().cmp(b.as_slice()).is_eq());
 }
 
-/// Puts lists of numbers into lexicographic order, and keeps each once.
+/// Puts lists of numbers into lexicographic order, the least first, and keeps each once. Without memory, which lists stand
+/// there is not said.
 pub fn arrange(lists: &mut Vec<Numbers>) -> Result<(), Memory>
     ensures in_order { OnOk result (InOrder lists.new.items) }
     ensures same { OnOk result ((list : List ℕ) → Contains lists.new.items list ↔ Contains lists.old.items list) }

@@ -4,7 +4,7 @@ use Rattle.graph_terms.specs.declared.term_row.TermRow.{TermRow}
 use Rattle.graph_meaning.specs.LawfulLaws.{terms_of-push}
 use Rattle.graph_meaning.specs.Standing.{terms_of}
 use Rattle.graph_meaning.specs.State.{GraphState, state_after}
-use Rattle.formula_assert.specs.GraphTerms.{adding, with_terms}
+use Rattle.match_graph.specs.GraphTerms.{adding, with_terms}
 
 -- the terms of a graph that gained some are the old ones and those
 pub terms-with_terms : (graph : GraphState) (rows : List TermRow) → terms_of (with_terms graph rows).standing ≡ terms_of graph.standing ++ rows
