@@ -39,10 +39,9 @@ impl DraftRow {
         match self {
             DraftRow::Var { index } => key_of(alloc, 0, &[*index]),
             DraftRow::App { symbol, args } => {
-                let mut numbers = Vec::new(alloc);
-                numbers.push(*symbol)?;
-                numbers.extend_from_slice(args.as_slice())?;
-                key_of(alloc, 1, numbers.as_slice())
+                let mut key = key_of(alloc, 1, &[*symbol])?;
+                key.extend_from_slice(args.as_slice())?;
+                Ok(key)
             }
         }
     }

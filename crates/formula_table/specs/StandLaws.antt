@@ -149,17 +149,17 @@ module _ (formula : Formula) (is : IsFormula formula) where
         let within = row_stands formula.rows formula.nodes formula.foralls is.lawful formula.root is.root_stands reach in
         slice_get_within (rows ++ grow.added) (slice_index terms n) row.0 (grow.enters.stand n row.0 (omega (arith, within, grow.all)) row.1)
 
-    abbrev AreTerms : List ℕ → Type 0
-    AreTerms = All (λ term. term < length (rows ++ grow.added))
+    abbrev AreBelow : List ℕ → Type 0
+    AreBelow = All (λ term. term < length (rows ++ grow.added))
 
-    one_term : (term : ℕ) → term < length (rows ++ grow.added) → AreTerms (term ∷ [])
+    one_term : (term : ℕ) → term < length (rows ++ grow.added) → AreBelow (term ∷ [])
     one_term term below = All-cons (λ t. t < length (rows ++ grow.added)) term [] below (All-nil (λ t. t < length (rows ++ grow.added)))
 
     -- a reached node is over the terms
-    node_terms : (foralls numbers : List ℕ) (n : ℕ) (node : Node) → BecomesNode formula terms foralls numbers n node → AreTerms (terms_in node)
-    node_terms foralls numbers n node becomes = subst (λ (x : Node). AreTerms (terms_in x)) (sym becomes.node_is) (by becomes.draft_node becomes.stands)
+    node_terms : (foralls numbers : List ℕ) (n : ℕ) (node : Node) → BecomesNode formula terms foralls numbers n node → AreBelow (terms_in node)
+    node_terms foralls numbers n node becomes = subst (λ (x : Node). AreBelow (terms_in x)) (sym becomes.node_is) (by becomes.draft_node becomes.stands)
       where
-        by : (drafted : DraftNode) → slice_get formula.nodes n ≡ Some drafted → AreTerms (terms_in (entered_node terms foralls numbers drafted))
+        by : (drafted : DraftNode) → slice_get formula.nodes n ≡ Some drafted → AreBelow (terms_in (entered_node terms foralls numbers drafted))
         by (Equal positive left right) at =
             let one = row_below left (named becomes.reached at (0, omega arith, refl)) in
             let other = row_below right (named becomes.reached at (1, omega arith, refl)) in

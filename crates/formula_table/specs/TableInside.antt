@@ -11,7 +11,7 @@ abbrev pub table_of : Inside → Formulas
 table_of inside = record { nodes = values inside.nodes; foralls = inside.foralls.items; limit = inside.limit }
 
 -- nodes stand under their keys, and numbers fit
-pub record IsSound (inside : Inside) : Type 0 where
+pub record IsKeptTable (inside : Inside) : Type 0 where
   pub keyed : AreKeyed entered_key inside.nodes.entries
   pub is_table : IsFormulaTable (table_of inside)
   pub limit_fits : inside.limit < 2 ^ 32

@@ -2,15 +2,19 @@
 ghost use Rattle.std.specs.Prelude.{◌≡◌};
 
 use graph_terms::{Memory, TableFault};
+use thiserror::Error;
 
 /// Why a formula was not entered.
-#[derive(Clone, Copy, Debug, PartialEq, Eq)]
+#[derive(Clone, Copy, Debug, PartialEq, Eq, Error)]
 pub enum EnterFault {
     /// The next term is new, and as many terms stand as may.
+    #[error("there are as many terms as there may be")]
     TermsFull,
     /// The next node is new, and as many nodes stand as may.
+    #[error("there are as many nodes as there may be")]
     NodesFull,
     /// Memory was refused.
+    #[error("no memory to enter the formula")]
     Memory,
 }
 

@@ -1,5 +1,5 @@
 //! Enters the nodes of a formula.
-ghost use Rattle.std.specs.Prelude.{◌≡◌, ◌<◌, ◌↔◌, length, All, IsTrue, IfOk, IfErr, OnErr};
+ghost use Rattle.std.specs.Prelude.{◌≡◌, ◌<◌, ◌↔◌, length, map, slice_index, All, IsTrue, IfOk, IfErr, OnErr};
 ghost use Rattle.formula_draft.specs.DraftNode.{rows_of, parts_of, foralls_of};
 ghost use Rattle.formula_draft.specs.Reach.{ReachesNode};
 ghost use Rattle.formula_draft.specs.Draft.{IsFormula};
@@ -13,8 +13,18 @@ use crate::enter_rows::{push_number, renamed};
 use crate::formula_table::FormulaTable;
 use crate::node::Node;
 use formula_draft::{DraftNode, Formula};
-use graph_terms::Memory;
+use graph_terms::{Memory, Numbers};
 use std::alloc::Global;
+
+/// The numbers that these parts have.
+fn renamed_parts(alloc: Global, parts: &[u32], numbers: &[u32]) -> Result<Numbers, Memory>
+    requires { All (λ part. part < length numbers.now) parts.now }
+    ensures { IfOk result (λ found. found ≡ map (slice_index numbers.now) parts.now) }
+{
+    let found = renamed(alloc, parts, numbers)?;
+    let parts = Numbers::from_slice(alloc, found.as_slice())?;
+    Ok(parts)
+}
 
 /// The node of the table that a node of the formula becomes, over terms, numbers of foralls and numbers of earlier nodes.
 fn next_node(
@@ -51,11 +61,11 @@ fn next_node(
             });
         }
         DraftNode::And { parts } => {
-            let parts = renamed(alloc, parts.as_slice(), numbers)?;
+            let parts = renamed_parts(alloc, parts.as_slice(), numbers)?;
             return Ok(Node::And { parts });
         }
         DraftNode::Or { parts } => {
-            let parts = renamed(alloc, parts.as_slice(), numbers)?;
+            let parts = renamed_parts(alloc, parts.as_slice(), numbers)?;
             return Ok(Node::Or { parts });
         }
         DraftNode::Forall { index } => {

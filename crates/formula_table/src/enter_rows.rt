@@ -10,7 +10,7 @@ ghost use Rattle.formula_table.specs.EntryInside.{NumbersStand, StopsTerm, RowGr
 
 use crate::enter_fault::EnterFault;
 use formula_draft::{DraftRow, Formula};
-use graph_terms::{Memory, Numbers, TermEntry};
+use graph_terms::{Memory, TermEntry};
 use std::alloc::Global;
 
 /// Puts a number last.
@@ -22,15 +22,15 @@ pub(crate) fn push_number(numbers: &mut Vec<u32>, number: u32) -> Result<(), Mem
 }
 
 /// The numbers that these places have.
-pub(crate) fn renamed(alloc: Global, places: &[u32], numbers: &[u32]) -> Result<Numbers, Memory>
+pub(crate) fn renamed(alloc: Global, places: &[u32], numbers: &[u32]) -> Result<Vec<u32>, Memory>
     requires { All (λ place. place < length numbers.now) places.now }
-    ensures { IfOk result (λ found. found ≡ map (slice_index numbers.now) places.now) }
+    ensures { IfOk result (λ found. found.items ≡ map (slice_index numbers.now) places.now) }
 {
     let mut found = Vec::new(alloc);
     for place in places {
         push_number(&mut found, numbers[*place as usize])?;
     }
-    Numbers::from_slice(alloc, found.as_slice())
+    Ok(found)
 }
 
 /// Adds the term of a row whose arguments became these terms.

@@ -34,11 +34,11 @@ impl Model for FormulaTable {
 
     ghost Value = { Formulas };
 
-    ghost use Rattle.formula_table.specs.TableInside.{table_of, IsSound};
+    ghost use Rattle.formula_table.specs.TableInside.{table_of, IsKeptTable};
 
     ghost view = { table_of };
 
-    ghost invariant = { IsSound };
+    ghost invariant = { IsKeptTable };
 }
 
 impl FormulaTable {

@@ -13,14 +13,15 @@ use Rattle.smt_names.specs.declared.syntax_fault.SyntaxFault.{SyntaxFault}
 use Rattle.smt_names.specs.Value.{sort_of, self}
 use Rattle.smt_names.specs.Making.{made, then_from, want, ◌>>◌}
 use Rattle.smt_names.specs.Names.{State, Scope}
-use Rattle.smt_terms.specs.declared.frame.Inside.{Inside}
+use Rattle.smt_terms.specs.declared.inside.Inside.{Inside}
 use Rattle.smt_terms.specs.Machine.{scope_of}
 use Rattle.smt_terms.specs.Meant.{Meant, first_place}
 use Rattle.smt_terms.specs.Terms.{value}
 use Rattle.smt_terms.specs.Cursor.{here}
 use Rattle.smt_laws.specs.Laws.{MakesFormulas}
 use Rattle.smt_commands.specs.declared.command.Command.TheVariants.{Assert}
-use Rattle.smt_commands.specs.Commands.{begun, sorted_value, asserted, asserted_term, outside, without_draft}
+use Rattle.smt_commands.specs.Commands.{begun, sorted_value, asserted, asserted_term, without_draft}
+use Rattle.smt_terms.specs.Scopes.{outside}
 use Rattle.smt_commands.specs.SessionLaws.{IsSound}
 use Rattle.smt_commands.proofs.Steps.{answered, draft_of}
 

@@ -1,5 +1,7 @@
 -- Every command keeps what stands in a session right, and what it asserts is a formula.
-use Rattle.std.proofs.Common.{◌≡◌, ℕ, zero, suc, ◌-◌, ◌==◌, Bool, true, false, cond, List, [], ◌∷◌, ◌++◌, reverse, length, bytes_eq, codes, Result, Ok, Err, refl, ap₂, subst, append-nil, arith}
+use Rattle.std.proofs.Common.{◌≡◌, ℕ, zero, suc, ◌-◌, ◌≤◌, ◌==◌, Bool, true, false, cond, List, [], ◌∷◌, ◌++◌, reverse, length, take, get_or, bytes_eq, codes, Result, Ok, Err, refl, sym, subst, append-nil, length-append, arith}
+use Rattle.std.proofs.lemmas.List.{length-take-le}
+use Rattle.std.proofs.lemmas.List.Elements.{All-nil}
 use Rattle.std.proofs.lemmas.Option.{none-some}
 use Rattle.em_outside.specs.declared.limits.Limits.{Limits}
 use Rattle.smt_text.specs.Trees as trees
@@ -7,8 +9,6 @@ use Rattle.smt_text.specs.declared.token.Place.{Place}
 use Rattle.formula_draft.specs.Draft.{Draft, Formula, IsFormula, finished}
 use Rattle.smt_names.specs.declared.value.Value.{Value}
 use Rattle.smt_names.specs.declared.bound.Bound.{Bound}
-use Rattle.smt_names.specs.declared.stands.Stands.{Stands}
-use Rattle.smt_names.specs.declared.stands.Stands.TheVariants.{Given, Variable}
 use Rattle.smt_names.specs.declared.signature.Signature.{Signature}
 use Rattle.smt_names.specs.declared.syntax_fault.SyntaxFault.{SyntaxFault}
 use Rattle.smt_names.specs.declared.refusal.Refusal.TheVariants as refusal
@@ -19,57 +19,75 @@ use Rattle.smt_terms.specs.Meant.{Meant, from, first_place, at_most}
 use Rattle.smt_terms.specs.Terms.{value, meant}
 use Rattle.smt_laws.specs.Sorted.{IsTruth}
 use Rattle.smt_laws.specs.Sound.{IsDefinition}
-use Rattle.smt_laws.specs.Laws as laws
+use Rattle.smt_terms.specs.Scopes.{outside, inside_definition, sorts_of}
 use Rattle.smt_laws.specs.Laws.{MakesFormulas, MakesDefinitions, KeepsDefinitions}
 use Rattle.smt_commands.specs.declared.command.Command.{Command}
 use Rattle.smt_commands.specs.declared.command.Command.TheVariants.{Silent, Unsupported, Assert, Push, Pop, CheckSat, GetInfo, Reset, ResetAssertions, Exit}
 use Rattle.smt_commands.specs.declared.named.Named.{Named}
 use Rattle.smt_commands.specs.declared.named.Named.TheVariants as named
-use Rattle.smt_commands.specs.Commands.{Answer, answer, silent, logic_form, truth_first, plain_value, set_by, key_form, set_option, info_form, sort_form, declare_fun, declare_const, sort_of_bound, sorts_of, inside_definition, sorted_value, defined, define_fun, outside, assert_truth, push_form, pop_form, asked_form, headed, command_named, command_of, command_at, without_draft, elaborate}
-use Rattle.smt_commands.specs.SessionLaws.{IsSound, AssertsTruth, KeepsSound}
+use Rattle.smt_commands.specs.Commands.{Answer, answer, silent, logic_form, truth_first, plain_value, set_by, key_form, set_option, info_form, sort_form, declare_fun, declare_const, sorted_value, defined, define_fun, assert_truth, push_form, pop_form, asked_form, headed, command_named, command_of, command_at, without_draft, elaborate}
+use Rattle.smt_commands.specs.SessionLaws.{FunctionIsWithin, DefinitionIsWithin, AreWithin, AreSoundLevels, IsSound, AssertsTruth, KeepsSound}
 use Rattle.smt_commands.proofs.Steps.{draft_of}
-use Rattle.smt_commands.proofs.SessionLawLevels.{function_declared, definition_declared, levels_behind, levels_opened, levels_closed}
-use Rattle.smt_commands.proofs.SessionLawForms.{Checked, checked, stopped, checks_exactly, checks_named_form, checks_sort, AreFew, checks_signature, checks_constant, AreParameters, checks_parameters}
+use Rattle.smt_commands.proofs.SessionLawLevels.{function_declared, definition_declared, within_more, function_within, definition_within, levels_behind, levels_opened, levels_closed}
+use Rattle.smt_commands.proofs.SessionLawForms.{Checked, checked, stopped, checks_exactly, checks_named_form, checks_sort, AreFewSorts, checks_signature, checks_constant, AreParameters, checks_parameters}
 
 -- States.
 -- nothing declared is right
 pub sound_at_start : (limits : Limits) → IsSound (at_start limits)
 sound_at_start limits = record {
   declared = record { functions_are = λ n f at. absurd (none-some f at); definitions_are = λ n d at. absurd (none-some d at) };
+  within = record { functions_are = All-nil (FunctionIsWithin 0); definitions_are = All-nil (DefinitionIsWithin 0) };
   levels = tt {0};
 }
 
 sound_cleared : (state : State) → IsSound (cleared state)
-sound_cleared state = record { declared = (sound_at_start state.limits).declared; levels = (sound_at_start state.limits).levels }
+sound_cleared state = let start = sound_at_start state.limits in record { declared = start.declared; within = start.within; levels = start.levels }
 
 module _ (state : State) (is : IsSound state) where
   sound_printing : (prints : Bool) → IsSound (record state { prints_success = prints })
-  sound_printing prints = record { declared = is.declared; levels = is.levels }
+  sound_printing prints = record { declared = is.declared; within = is.within; levels = is.levels }
 
   sound_with_sort : (name : List ℕ) → IsSound (with_sort name state)
-  sound_with_sort name = record { declared = is.declared; levels = is.levels }
+  sound_with_sort name =
+      let fewer : length state.sorts ≤ length (state.sorts ++ name ∷ []) = omega (arith, length-append state.sorts (name ∷ [])) in
+      record {
+        declared = is.declared;
+        within = within_more (length state.sorts) (length (state.sorts ++ name ∷ [])) fewer state.functions state.definitions is.within;
+        levels = rw (append-nil state.functions, append-nil state.definitions) at (levels_behind (length state.sorts) (length (state.sorts ++ name ∷ [])) fewer state.functions [] state.definitions [] (reverse state.levels) is.levels);
+      }
 
-  sound_with_function : KeepsDefinitions → (name : List ℕ) (sorts : Signature) → AreFew sorts.arguments → IsSound (with_function name sorts state)
+  sound_with_function : KeepsDefinitions → (name : List ℕ) (sorts : Signature) → AreFewSorts (length state.sorts) sorts → IsSound (with_function name sorts state)
   sound_with_function keeps name sorts few =
       let f = declared_as name sorts in
       record {
-        declared = function_declared keeps state.functions state.definitions f (record { few = few.few; others = few.others }) is.declared;
-        levels = rw (append-nil state.definitions) at (levels_behind state.functions (f ∷ []) state.definitions [] (reverse state.levels) is.levels);
+        declared = function_declared keeps state.functions state.definitions f (record { few = few.arguments.few; others = few.arguments.others }) is.declared;
+        within = function_within (length state.sorts) state.functions state.definitions f (record { arguments = few.arguments.known; value = few.value }) is.within;
+        levels = rw (append-nil state.definitions) at (levels_behind (length state.sorts) (length state.sorts) (omega arith) state.functions (f ∷ []) state.definitions [] (reverse state.levels) is.levels);
       }
 
-  sound_with_definition : (d : Defined) → IsDefinition state.functions d → IsSound (record state { definitions = state.definitions ++ d ∷ [] })
-  sound_with_definition d right = record {
+  sound_with_definition : (d : Defined) → IsDefinition state.functions d → DefinitionIsWithin (length state.sorts) d → IsSound (record state { definitions = state.definitions ++ d ∷ [] })
+  sound_with_definition d right known = record {
     declared = definition_declared state.functions state.definitions d right is.declared;
-    levels = rw (append-nil state.functions) at (levels_behind state.functions [] state.definitions (d ∷ []) (reverse state.levels) is.levels);
+    within = definition_within (length state.sorts) state.functions state.definitions d known is.within;
+    levels = rw (append-nil state.functions) at (levels_behind (length state.sorts) (length state.sorts) (omega arith) state.functions [] state.definitions (d ∷ []) (reverse state.levels) is.levels);
   }
 
   sound_pushed : (n : ℕ) → IsSound (pushed n state)
-  sound_pushed n = record { declared = is.declared; levels = levels_opened state.functions state.definitions is.declared (level_of state) refl refl n state.levels is.levels }
+  sound_pushed n = record { declared = is.declared; within = is.within; levels = levels_opened (length state.sorts) state.functions state.definitions is.declared is.within (level_of state) refl refl refl n state.levels is.levels }
 
   sound_popped : (n : ℕ) → IsSound (popped n state)
   sound_popped n =
-      let back = levels_closed state.functions state.definitions is.declared (level_of state) refl refl (length state.levels - n) state.levels is.levels in
-      record { declared = back.declared; levels = back.levels_are }
+      let kept = length state.levels - n in
+      let level = get_or state.levels kept (level_of state) in
+      let functions = take level.functions state.functions in
+      let definitions = take level.definitions state.definitions in
+      let back = levels_closed (length state.sorts) state.functions state.definitions is.declared is.within (level_of state) refl refl refl kept state.levels is.levels in
+      let stand : level.sorts ≡ length (take level.sorts state.sorts) = sym (length-take-le level.sorts state.sorts back.fewer) in
+      record {
+        declared = back.declared;
+        within = subst (λ (sorts : ℕ). AreWithin sorts functions definitions) stand back.within_are;
+        levels = subst (λ (sorts : ℕ). AreSoundLevels sorts functions definitions (reverse (take kept state.levels))) stand back.levels_are;
+      }
 
 -- Answers.
 -- the state after it is right, and what is asserted is a formula; or the command is refused
@@ -131,15 +149,6 @@ from_meant (suc n) trees.End = refl
 from_meant (suc n) (trees.Token word after) = from_meant n after
 from_meant (suc n) (trees.Group paren inner after) = from_meant n after
 
--- the sorts of parameters
-same_sort : (s : Stands) → sort_of_bound s ≡ laws.sort_of_stands s
-same_sort (Given v) = refl
-same_sort (Variable index sort) = refl
-
-same_sorts : (bound : List Bound) → sorts_of bound ≡ laws.sorts_of bound
-same_sorts [] = refl
-same_sorts (b ∷ bound) = ap₂ (λ x xs. x ∷ xs) (same_sort b.stands) (same_sorts bound)
-
 -- Commands.
 module _ (makes_formulas : MakesFormulas) (makes_definitions : MakesDefinitions) (keeps : KeepsDefinitions) (state : State) (is : IsSound state) where
   set_option_right : (head : Place) (parts : Meant) (draft : Draft) → Answered (set_option state head parts draft)
@@ -166,19 +175,19 @@ module _ (makes_formulas : MakesFormulas) (makes_definitions : MakesDefinitions)
       let draft = draft_of state in
       behind_check draft _ (checks_named_form draft 4 state head (meant t)) λ name _.
       behind_check draft _ (checks_parameters draft state head (from 1 (meant t))) λ parameters are.
-      behind_check draft _ (checks_sort draft state head (from 2 (meant t))) λ sort _.
-      define name.text parameters are sort
+      behind_check draft _ (checks_sort draft state head (from 2 (meant t))) λ sort known.
+      define name.text parameters are sort known
     where
-      define : (name : List ℕ) (parameters : List Bound) → AreParameters state (draft_of state) parameters → (sort : ℕ)
+      define : (name : List ℕ) (parameters : List Bound) → AreParameters state (draft_of state) parameters → (sort : ℕ) → sort ≤ length state.sorts
           → Answered (then_from (defined state name parameters sort) (sorted_value head (inside_definition state parameters) sort (from 3 (meant t)) (draft_of state)))
-      define name parameters are sort =
+      define name parameters are sort known =
           let draft = draft_of state in
           let made_so = value head (inside_definition state parameters) (from 3 (meant t)) draft in
           behind_sorted sort made_so _ (sorted_by (first_place head (from 3 (meant t))) sort made_so) λ v later was _.
           let right = makes_definitions state head are.bindings draft draft parameters (behind_trees 3 t) state.limits.terms state.limits.nodes v later name sort (sorts_of parameters) is.declared are.given
-          (subst (λ (parts : Meant). value head (inside_definition state parameters) parts draft ≡ Ok (v, later)) (from_meant 3 t) was) (same_sorts parameters) in
+          (subst (λ (parts : Meant). value head (inside_definition state parameters) parts draft ≡ Ok (v, later)) (from_meant 3 t) was) refl in
           silence (record state { definitions = state.definitions ++ record { name = name; parameters = sorts_of parameters; sort = sort; rows = later.rows; nodes = later.nodes; value = v } ∷ [] }) later
-          (sound_with_definition state is (record { name = name; parameters = sorts_of parameters; sort = sort; rows = later.rows; nodes = later.nodes; value = v }) right)
+          (sound_with_definition state is (record { name = name; parameters = sorts_of parameters; sort = sort; rows = later.rows; nodes = later.nodes; value = v }) right (record { parameters = are.known; value = known }))
 
   assert_right : (head : Place) (t : trees.Trees) → Answered (assert_truth state head (meant t) (draft_of state))
   assert_right head t =

@@ -1,6 +1,7 @@
 -- The forms of commands put nothing, and what their checks say of what they give.
-use Rattle.std.proofs.Common.{◌≡◌, ℕ, zero, suc, ◌+◌, ◌≤◌, ◌==◌, Bool, true, false, cond, not, ◌&&◌, List, [], ◌∷◌, ◌++◌, length, Option, Some, None, bytes_eq, Result, Ok, Err, All, refl, arith}
-use Rattle.std.specs.List.{list_any}
+use Rattle.std.proofs.Common.{◌≡◌, ℕ, zero, suc, ◌+◌, ◌<◌, ◌≤◌, ◌==◌, Bool, true, false, cond, not, ◌&&◌, List, [], ◌∷◌, ◌++◌, length, Option, Some, None, bytes_eq, codes, Result, Ok, Err, All, refl, arith}
+use Rattle.std.specs.List.{list_any, position_from}
+use Rattle.std.proofs.lemmas.Option.{none-some, same_Some}
 use Rattle.std.proofs.lemmas.List.Elements.{All-nil, All-cons}
 use Rattle.smt_text.specs.Word.{Word}
 use Rattle.smt_text.specs.declared.token.Place.{Place}
@@ -11,9 +12,10 @@ use Rattle.smt_names.specs.declared.syntax_fault.SyntaxFault.{SyntaxFault}
 use Rattle.smt_names.specs.declared.refusal.Refusal.{Refusal}
 use Rattle.smt_names.specs.declared.refusal.Refusal.TheVariants as refusal
 use Rattle.smt_names.specs.Making.{Making, made, then_from, ◌>>=◌, want, want_named, bad_form}
-use Rattle.smt_names.specs.Names.{State, is_symbol, is_known, named, is_solver_name, is_reserved, known_sort, sort_number, lawful_name, new_name, new_function_name}
-use Rattle.smt_terms.specs.Meant.{Meaning, Meant, End, Token, Group, from, first_place, no_more, at_least, exactly, token_first, Listed, list_first, sort_first, other_sort, binding_name, bindings_after, no_binding}
+use Rattle.smt_names.specs.Names.{State, is_symbol, is_known, named, is_solver_name, is_reserved, known_sort, sort_number, sort_at_place, lawful_name, new_name, new_function_name}
+use Rattle.smt_terms.specs.Meant.{Meaning, Meant, End, Token, Group, from, first_place, no_more, at_least, exactly, token_first, Listed, list_first, sort_first, other_sort, head_place, binding_name, bindings_after, no_binding}
 use Rattle.smt_terms.specs.Terms.{variables_from}
+use Rattle.smt_terms.specs.Scopes.{sorts_of}
 use Rattle.smt_commands.specs.Commands.{other_sorts, new_function, named_form, argument_sorts, arguments_first, signature_first, constant_first, few_bindings, parameters_first}
 
 -- a step that puts nothing, and of whose value this holds
@@ -34,9 +36,27 @@ any draft (checked is) = checked (tt {0})
 any draft stopped = stopped
 
 -- the value is what the step gave
-gave : {A : Type 0} {P : A → Type 0} (draft : Draft) {r : Result (A × Draft) SyntaxFault} → Checked P draft r → Checked (λ given. r ≡ Ok (given, draft)) draft r
-gave draft (checked is) = checked refl
+gave : {A : Type 0} {P : A → Type 0} (draft : Draft) {r : Result (A × Draft) SyntaxFault} → Checked P draft r → Checked (λ given. P given × (r ≡ Ok (given, draft))) draft r
+gave draft (checked is) = checked (is, refl)
 gave draft stopped = stopped
+
+-- the number of what is found is that of an item
+place_within : {X : Type 0} (test : X → Bool) (xs : List X) (j n : ℕ) → position_from test j xs ≡ Some n → n < j + length xs
+place_within test [] j n e = absurd (none-some n e)
+place_within test (x ∷ xs) j n e = by (test x) (place_within test xs (j + 1) n) e
+  where
+    by : (b : Bool) → (position_from test (j + 1) xs ≡ Some n → n < j + 1 + length xs) → cond b (Some j) (position_from test (j + 1) xs) ≡ Some n → n < j + length (x ∷ xs)
+    by true later e = omega (arith, same_Some j n e)
+    by false later e = omega (arith, later e)
+
+-- the number of a sort is 0 or that of a sort that stands
+sort_stands : (state : State) (name : List ℕ) (sort : ℕ) → sort_number state name ≡ Some sort → sort ≤ length state.sorts
+sort_stands state name sort e = by (bytes_eq name (codes "Bool")) (position_from (bytes_eq name) 0 state.sorts) refl e
+  where
+    by : (b : Bool) (place : Option ℕ) → position_from (bytes_eq name) 0 state.sorts ≡ place → cond b (Some 0) (sort_at_place place) ≡ Some sort → sort ≤ length state.sorts
+    by true place is e = omega (arith, same_Some 0 sort e)
+    by false None is e = absurd (none-some sort e)
+    by false (Some n) is e = omega (arith, same_Some (n + 1) sort e, place_within (bytes_eq name) state.sorts 0 n is)
 
 module _ (draft : Draft) where
   checks_want : (test : Bool) (refusal : Refusal) (place : Place) → Checked (λ _. test ≡ true) draft (want test refusal place draft)
@@ -88,79 +108,87 @@ module _ (draft : Draft) where
   checks_named_form n state head parts = checked_then draft _ (checks_exactly n head parts) λ _ _. checks_new_function state head parts
 
   -- Sorts.
-  pub checks_sort : (state : State) (missing : Place) (trees : Meant) → Checked Anything draft (sort_first state missing trees draft)
+  -- the number of a sort that stands
+  pub checks_sort : (state : State) (missing : Place) (trees : Meant) → Checked (λ sort. sort ≤ length state.sorts) draft (sort_first state missing trees draft)
   checks_sort state missing End = stopped
-  checks_sort state missing (Token word trees) = by (is_symbol word.kind) (sort_number state word.text)
+  checks_sort state missing (Token word trees) = by (is_symbol word.kind) (sort_number state word.text) refl
     where
-      by : (b : Bool) (o : Option ℕ) → Checked Anything draft (cond b (known_sort word o) (bad_form word.place) draft)
-      by true None = stopped
-      by true (Some sort) = checked (tt {0})
-      by false o = stopped
+      by : (b : Bool) (o : Option ℕ) → sort_number state word.text ≡ o → Checked (λ sort. sort ≤ length state.sorts) draft (cond b (known_sort word o) (bad_form word.place) draft)
+      by true None is = stopped
+      by true (Some sort) is = checked (sort_stands state word.text sort is)
+      by false o is = stopped
   checks_sort state missing (Group paren meaning inner trees) = stopped
 
   other_from : (sort : ℕ) → not (sort == 0) ≡ true → 1 ≤ sort
   other_from sort other = grind arith
 
-  checks_other_sort : (state : State) (missing : Place) (trees : Meant) → Checked (λ sort. 1 ≤ sort) draft (other_sort state missing trees draft)
-  checks_other_sort state missing trees = checked_then draft _ (checks_sort state missing trees) λ sort _. checked_then draft _ (checks_want (not (sort == 0)) refusal.NotInProfile (first_place missing trees)) λ _ other. checked (other_from sort other)
+  checks_other_sort : (state : State) (missing : Place) (trees : Meant) → Checked (λ sort. (1 ≤ sort) × (sort ≤ length state.sorts)) draft (other_sort state missing trees draft)
+  checks_other_sort state missing trees = checked_then draft _ (checks_sort state missing trees) λ sort known. checked_then draft _ (checks_want (not (sort == 0)) refusal.NotInProfile (first_place missing trees)) λ _ other. checked (other_from sort other, known)
 
--- sorts of arguments: none is Bool, and they are no more than the trees
-pub record AreOthers (trees : Meant) (sorts : List ℕ) : Type 0 where
+-- sorts of arguments: none is Bool, they are among so many, and they are no more than the trees
+pub record AreOthers (most : ℕ) (trees : Meant) (sorts : List ℕ) : Type 0 where
   pub others : All (λ sort. 1 ≤ sort) sorts
+  pub known : All (λ sort. sort ≤ most) sorts
   pub few : (n : ℕ) → from n trees ≡ End → length sorts ≤ n
 
-others_token : (word : Word) (trees : Meant) (sort : ℕ) (sorts : List ℕ) → 1 ≤ sort → AreOthers trees sorts → AreOthers (Token word trees) (sort ∷ sorts)
-others_token word trees sort sorts some are = record { others = All-cons (λ sort. 1 ≤ sort) sort sorts some are.others; few = few }
+others_token : (most : ℕ) (word : Word) (trees : Meant) (sort : ℕ) (sorts : List ℕ) → (1 ≤ sort) × (sort ≤ most) → AreOthers most trees sorts → AreOthers most (Token word trees) (sort ∷ sorts)
+others_token most word trees sort sorts some are = record { others = All-cons (λ sort. 1 ≤ sort) sort sorts some.0 are.others; known = All-cons (λ sort. sort ≤ most) sort sorts some.1 are.known; few = few }
   where
     few : (n : ℕ) → from n (Token word trees) ≡ End → length (sort ∷ sorts) ≤ n
     few zero ends = cc
     few (suc n) ends = omega (arith, are.few n ends)
 
-others_list : (paren : Word) (meaning : Meaning) (inner trees : Meant) (sort : ℕ) (sorts : List ℕ) → 1 ≤ sort → AreOthers trees sorts → AreOthers (Group paren meaning inner trees) (sort ∷ sorts)
-others_list paren meaning inner trees sort sorts some are = record { others = All-cons (λ sort. 1 ≤ sort) sort sorts some are.others; few = few }
+others_list : (most : ℕ) (paren : Word) (meaning : Meaning) (inner trees : Meant) (sort : ℕ) (sorts : List ℕ) → (1 ≤ sort) × (sort ≤ most) → AreOthers most trees sorts → AreOthers most (Group paren meaning inner trees) (sort ∷ sorts)
+others_list most paren meaning inner trees sort sorts some are = record { others = All-cons (λ sort. 1 ≤ sort) sort sorts some.0 are.others; known = All-cons (λ sort. sort ≤ most) sort sorts some.1 are.known; few = few }
   where
     few : (n : ℕ) → from n (Group paren meaning inner trees) ≡ End → length (sort ∷ sorts) ≤ n
     few zero ends = cc
     few (suc n) ends = omega (arith, are.few n ends)
 
--- sorts of a signature: at most 255 arguments, of which none is Bool
-pub record AreFew (sorts : List ℕ) : Type 0 where
+-- sorts of arguments: at most 255, of which none is Bool, among so many
+pub record AreFew (most : ℕ) (sorts : List ℕ) : Type 0 where
   pub few : length sorts ≤ 255
   pub others : All (λ sort. 1 ≤ sort) sorts
+  pub known : All (λ sort. sort ≤ most) sorts
+
+-- sorts of a signature, among so many
+pub record AreFewSorts (most : ℕ) (sorts : Signature) : Type 0 where
+  pub arguments : AreFew most sorts.arguments
+  pub value : sorts.sort ≤ most
 
 module _ (draft : Draft) (state : State) where
-  checks_other_sorts : (missing : Place) (trees : Meant) → Checked (AreOthers trees) draft (other_sorts state missing trees draft)
-  checks_other_sorts missing End = checked (record { others = All-nil (λ sort. 1 ≤ sort); few = λ n _. omega arith })
+  checks_other_sorts : (missing : Place) (trees : Meant) → Checked (AreOthers (length state.sorts) trees) draft (other_sorts state missing trees draft)
+  checks_other_sorts missing End = checked (record { others = All-nil (λ sort. 1 ≤ sort); known = All-nil (λ sort. sort ≤ length state.sorts); few = λ n _. omega arith })
   checks_other_sorts missing (Token word trees) =
       checked_then draft _ (checks_other_sort draft state missing (Token word trees)) λ sort some.
-      checked_then draft _ (checks_other_sorts missing trees) λ sorts are. checked (others_token word trees sort sorts some are)
+      checked_then draft _ (checks_other_sorts missing trees) λ sorts are. checked (others_token (length state.sorts) word trees sort sorts some are)
   checks_other_sorts missing (Group paren meaning inner trees) =
       checked_then draft (λ (sort : ℕ). other_sorts state missing trees >>= λ (sorts : List ℕ). made (sort ∷ sorts)) (checks_other_sort draft state missing (Group paren meaning inner trees)) λ sort some.
-      checked_then draft (λ (sorts : List ℕ). made (sort ∷ sorts)) (checks_other_sorts missing trees) λ sorts are. checked (others_list paren meaning inner trees sort sorts some are)
+      checked_then draft (λ (sorts : List ℕ). made (sort ∷ sorts)) (checks_other_sorts missing trees) λ sorts are. checked (others_list (length state.sorts) paren meaning inner trees sort sorts some are)
 
-  checks_argument_sorts : (listed : Listed) → Checked AreFew draft (argument_sorts state listed draft)
+  checks_argument_sorts : (listed : Listed) → Checked (AreFew (length state.sorts)) draft (argument_sorts state listed draft)
   checks_argument_sorts listed =
       checked_then draft _ (checks_no_more draft refusal.TooManyArguments (from 255 listed.inner)) λ _ ends.
       few_of (checks_other_sorts listed.paren.place listed.inner) ends
     where
-      few_of : {r : Result (List ℕ × Draft) SyntaxFault} → Checked (AreOthers listed.inner) draft r → from 255 listed.inner ≡ End → Checked AreFew draft r
-      few_of (checked are) ends = checked (record { few = are.few 255 ends; others = are.others })
+      few_of : {r : Result (List ℕ × Draft) SyntaxFault} → Checked (AreOthers (length state.sorts) listed.inner) draft r → from 255 listed.inner ≡ End → Checked (AreFew (length state.sorts)) draft r
+      few_of (checked are) ends = checked (record { few = are.few 255 ends; others = are.others; known = are.known })
       few_of stopped ends = stopped
 
-  checks_arguments : (head : Place) (parts : Meant) → Checked AreFew draft (arguments_first state head parts draft)
+  checks_arguments : (head : Place) (parts : Meant) → Checked (AreFew (length state.sorts)) draft (arguments_first state head parts draft)
   checks_arguments head parts = checked_then draft _ (checks_list draft head parts) λ listed _. checks_argument_sorts listed
 
-  pub checks_signature : (head : Place) (parts : Meant) → Checked (λ (sorts : Signature). AreFew sorts.arguments) draft (signature_first state head parts draft)
-  checks_signature head parts = checked_then draft _ (checks_arguments head parts) λ arguments few. checked_then draft _ (checks_sort draft state head (from 1 parts)) λ sort _. checked few
+  pub checks_signature : (head : Place) (parts : Meant) → Checked (AreFewSorts (length state.sorts)) draft (signature_first state head parts draft)
+  checks_signature head parts = checked_then draft _ (checks_arguments head parts) λ arguments few. checked_then draft _ (checks_sort draft state head (from 1 parts)) λ sort known. checked (record { arguments = few; value = known })
 
-  pub checks_constant : (head : Place) (parts : Meant) → Checked (λ (sorts : Signature). AreFew sorts.arguments) draft (constant_first state head parts draft)
-  checks_constant head parts = checked_then draft _ (checks_sort draft state head parts) λ sort _. checked (record { few = omega arith; others = All-nil (λ sort. 1 ≤ sort) })
+  pub checks_constant : (head : Place) (parts : Meant) → Checked (AreFewSorts (length state.sorts)) draft (constant_first state head parts draft)
+  checks_constant head parts = checked_then draft _ (checks_sort draft state head parts) λ sort known. checked (record { arguments = record { few = omega arith; others = All-nil (λ sort. 1 ≤ sort); known = All-nil (λ sort. sort ≤ length state.sorts) }; value = known })
 
 -- Parameters.
 module _ (draft : Draft) where
   checks_binding_name : (names : List (List ℕ)) (paren : Word) (inner : Meant) → Checked Anything draft (binding_name names paren inner draft)
   checks_binding_name names paren inner =
-      checked_then draft _ (checks_exactly draft 2 paren.place inner) λ _ _.
+      checked_then draft _ (checks_exactly draft 2 (head_place paren.place inner) inner) λ _ _.
       checked_then draft _ (checks_token draft paren.place inner) λ name _.
       checked_then draft _ (checks_lawful_name draft name) λ _ _.
       checked_then draft _ (checks_want draft (not (list_any (bytes_eq name.text) names)) refusal.BadForm name.place) λ _ _. checked (tt {0})
@@ -177,16 +205,17 @@ module _ (draft : Draft) where
   checks_few_bindings : (trees : Meant) → Checked Anything draft (few_bindings trees draft)
   checks_few_bindings trees = checked_then draft _ (checks_bindings [] trees) λ _ _. checks_no_binding refusal.TooManyArguments (from 255 trees)
 
-  checks_variables : (state : State) (index : ℕ) (trees : Meant) → Checked Anything draft (variables_from state index trees draft)
+  checks_variables : (state : State) (index : ℕ) (trees : Meant) → Checked (λ variables. All (λ sort. sort ≤ length state.sorts) (sorts_of variables)) draft (variables_from state index trees draft)
   checks_variables state index (Group paren meaning (Token name given) after) =
-      checked_then draft _ (checks_other_sort draft state name.place given) λ sort _.
-      checked_then draft _ (checks_variables state (index + 1) after) λ variables _. checked (tt {0})
-  checks_variables state index trees = checked (tt {0})
+      checked_then draft _ (checks_other_sort draft state name.place given) λ sort known.
+      checked_then draft _ (checks_variables state (index + 1) after) λ variables are. checked (All-cons (λ sort. sort ≤ length state.sorts) sort (sorts_of variables) known.1 are)
+  checks_variables state index trees = checked (All-nil (λ sort. sort ≤ length state.sorts))
 
--- the parameters are the variables of some bindings
+-- the parameters are the variables of some bindings, of sorts that stand
 pub record AreParameters (state : State) (draft : Draft) (parameters : List Bound) : Type 0 where
   pub bindings : Meant
   pub given : variables_from state 0 bindings draft ≡ Ok (parameters, draft)
+  pub known : All (λ sort. sort ≤ length state.sorts) (sorts_of parameters)
 
 pub checks_parameters : (draft : Draft) (state : State) (head : Place) (parts : Meant) → Checked (AreParameters state draft) draft (parameters_first state head parts draft)
 checks_parameters draft state head parts =
@@ -194,6 +223,6 @@ checks_parameters draft state head parts =
     checked_then draft _ (checks_few_bindings draft listed.inner) λ _ _.
     given_by listed.inner (gave draft (checks_variables draft state 0 listed.inner))
   where
-    given_by : (inner : Meant) {r : Result (List Bound × Draft) SyntaxFault} → Checked (λ parameters. variables_from state 0 inner draft ≡ Ok (parameters, draft)) draft r → Checked (AreParameters state draft) draft r
-    given_by inner (checked is) = checked (record { bindings = inner; given = is })
+    given_by : (inner : Meant) {r : Result (List Bound × Draft) SyntaxFault} → Checked (λ parameters. All (λ sort. sort ≤ length state.sorts) (sorts_of parameters) × (variables_from state 0 inner draft ≡ Ok (parameters, draft))) draft r → Checked (AreParameters state draft) draft r
+    given_by inner (checked is) = checked (record { bindings = inner; given = is.1; known = is.0 })
     given_by inner stopped = stopped

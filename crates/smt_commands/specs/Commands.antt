@@ -1,5 +1,5 @@
 -- Commands: what each one answers, and the state after it.
-use Rattle.std.specs.Prelude.{ℕ, ◌+◌, ◌-◌, Option, None, option_map, slice_get, Bool, true, false, cond, not, ◌&&◌, ◌||◌, nat_le, ◌==◌, if◌then◌else◌, List, [], ◌∷◌, ◌++◌, map, length, Result, Ok, Err, bytes_eq, codes}
+use Rattle.std.specs.Prelude.{ℕ, ◌+◌, ◌-◌, Option, None, option_map, slice_get, Bool, true, false, cond, not, ◌&&◌, ◌||◌, nat_le, ◌==◌, if◌then◌else◌, List, [], ◌∷◌, ◌++◌, length, Result, Ok, Err, bytes_eq, codes}
 use Rattle.std.specs.List.{list_any}
 use Rattle.smt_text.specs.Word.{Word}
 use Rattle.smt_text.specs.Trees.{tree_of}
@@ -10,13 +10,12 @@ use Rattle.smt_names.specs.declared.bound.Bound.{Bound}
 use Rattle.smt_names.specs.declared.syntax_fault.SyntaxFault.{SyntaxFault}
 use Rattle.smt_names.specs.declared.refusal.Refusal.TheVariants as refusal
 use Rattle.smt_names.specs.declared.signature.Signature.{Signature}
-use Rattle.smt_names.specs.declared.stands.Stands.{Stands}
-use Rattle.smt_names.specs.declared.stands.Stands.TheVariants.{Given, Variable}
 use Rattle.smt_names.specs.Value.{sort_of, self}
 use Rattle.smt_names.specs.Making.{Making, made, ◌>>=◌, ◌>>◌, want, bad_form, not_in_profile}
 use Rattle.smt_names.specs.Names.{State, Scope, Declared, with_sort, with_function, is_symbol, is_keyword, is_numeral, is_wide, number_of, new_function_name, new_sort_name, at_start, cleared, pushed, popped}
 use Rattle.smt_terms.specs.Meant.{Meant, Listed, End, Token, Group, from, first_place, no_more, at_most, at_least, exactly, token_first, list_first, sort_first, other_sort, bindings_after, no_binding}
 use Rattle.smt_terms.specs.Terms.{value, meant, variables_from}
+use Rattle.smt_terms.specs.Scopes.{outside, inside_definition, sorts_of}
 use Rattle.smt_commands.specs.declared.command.Command.{Command}
 use Rattle.smt_commands.specs.declared.command.Command.TheVariants.{Silent, Unsupported, Assert, Push, Pop, CheckSat, GetInfo, Reset, ResetAssertions, Exit}
 use Rattle.smt_commands.specs.declared.named.Named.{Named}
@@ -229,23 +228,11 @@ declare_const state head parts = do
   sorts ← constant_first state head (from 1 parts)
   silent (with_function name.text sorts state)
 
--- the sorts of variables
-abbrev pub sort_of_bound : Stands → ℕ
-sort_of_bound (Given v) = sort_of v
-sort_of_bound (Variable index sort) = sort
-
-abbrev pub sorts_of : List Bound → List ℕ
-sorts_of bound = map (λ b. sort_of_bound b.stands) bound
-
 abbrev pub defined : State → List ℕ → List Bound → ℕ → Value → Making Answer
 defined state name parameters sort v draft = silent (record state {
   definitions = state.definitions
       ++ record { name = name; parameters = sorts_of parameters; sort = sort; rows = draft.rows; nodes = draft.nodes; value = v } ∷ [];
 }) draft
-
--- inside a definition of these parameters
-abbrev pub inside_definition : State → List Bound → Scope
-inside_definition state parameters = record { state = state; bound = parameters; in_forall = false; in_definition = true }
 
 -- at most 255 bindings
 abbrev pub few_bindings : Meant → Making (Unit {0})
@@ -287,10 +274,6 @@ define_fun state head parts = do
 
 abbrev pub asserted : State → Value → Making Answer
 asserted state v draft = answer state (Assert (finished draft (self v))) draft
-
--- outside foralls and definitions
-abbrev pub outside : State → Scope
-outside state = record { state = state; bound = []; in_forall = false; in_definition = false }
 
 abbrev pub asserted_term : State → Place → Meant → Making Answer
 asserted_term state head parts = do

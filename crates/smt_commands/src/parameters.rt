@@ -1,18 +1,16 @@
 //! The parameters of a definition.
-ghost use Rattle.std.specs.Prelude.{◌≡◌, Ok};
-ghost use Rattle.smt_names.specs.Makes.{Checks, MakesItems};
+ghost use Rattle.std.specs.Prelude.{◌≡◌, IfOk};
+ghost use Rattle.smt_names.specs.Makes.{Checks};
 ghost use Rattle.smt_terms.specs.Terms.{variables_from};
-ghost use Rattle.formula_draft.specs.Draft.{Draft};
+ghost use Rattle.smt_terms.specs.Scopes.{sort_of_stands, sorts_of};
 ghost use Rattle.smt_terms.specs.Cursor.{here};
 ghost use Rattle.smt_commands.specs.Commands.{few_bindings, parameters_first, parameters_of};
-ghost use Rattle.smt_commands.specs.Parameters.{parameter_sorts, HasParameters};
+ghost use Rattle.smt_commands.specs.Parameters.{HasParameters};
 
 use crate::parts::check_list;
-use graph_terms::Numbers;
-use smt_names::{BoundNames, Refusal, SessionState, Stop};
-use smt_terms::{
-    binding_at, check_few_bindings, check_names, other_sort_at, place_at, read_variables,
-};
+use graph_terms::{Memory, Numbers};
+use smt_names::{Bound, BoundNames, Refusal, SessionState, Stands, Stop};
+use smt_terms::{bind_all, check_few_bindings, check_names, variables_at};
 use smt_text::{Place, Tree};
 use std::alloc::Global;
 
@@ -33,48 +31,52 @@ fn check_parameters(alloc: Global, tree: &Tree, i: u32) -> Result<(), Stop>
     }
 }
 
-/// The sorts of the bindings that come next, to the end of the list.
-fn parameter_sorts_at(
-    alloc: Global,
-    state: &SessionState,
-    tree: &Tree,
-    i: u32,
-) -> Result<Vec<u32>, Stop>
-    ensures { (draft : Draft) → MakesItems result draft draft (parameter_sorts state.now (here tree.now i)) }
+/// The sort of what a bound name stands for.
+fn sort_of_stands(stands: Stands) -> u32
+    ensures { result ≡ sort_of_stands stands }
 {
-    let mut sorts = Vec::new(alloc);
-    let mut at = i;
-    loop {
-        match binding_at(tree, at) {
-            None => return Ok(sorts),
-            Some(binding) => {
-                let place = place_at(tree, binding.name);
-                match other_sort_at(alloc, state, tree, binding.name + 1, place) {
-                    Err(stop) => return Err(stop),
-                    Ok(sort) => sorts.push(sort)?,
-                }
-                at = binding.behind;
-            }
-        }
+    match stands {
+        Stands::Given(value) => value.sort(),
+        Stands::Variable { sort, .. } => sort,
     }
 }
 
-/// The parameters with their sorts, where they are bound names already.
-fn with_sorts(
+/// The sorts of bound names.
+fn sorts_of(alloc: Global, bound: &[Bound]) -> Result<Numbers, Memory>
+    ensures { IfOk result (λ sorts. sorts ≡ sorts_of bound.now) }
+{
+    let mut sorts = Vec::new(alloc);
+    for name in bound {
+        sorts.push(sort_of_stands(name.stands))?;
+    }
+    Numbers::from_slice(alloc, sorts.as_slice())
+}
+
+/// The parameters that are these variables, with their sorts.
+fn with_sorts(alloc: Global, variables: &[Bound]) -> Result<Parameters, Memory>
+    ensures bound { IfOk result (λ parameters. parameters.bound ≡ variables.now) }
+    ensures sorts { IfOk result (λ parameters. parameters.sorts ≡ sorts_of variables.now) }
+{
+    let sorts = sorts_of(alloc, variables)?;
+    let mut bound = BoundNames::new(alloc);
+    bind_all(&mut bound, variables)?;
+    Ok(Parameters { bound, sorts })
+}
+
+/// The parameters of the bindings that come next, whose form is right.
+fn read_parameters(
     alloc: Global,
     state: &SessionState,
     tree: &Tree,
     i: u32,
-    bound: BoundNames,
 ) -> Result<Parameters, Stop>
-    requires { (draft : Draft) → variables_from state.now 0 (here tree.now i) draft ≡ Ok (bound, draft) }
     ensures { HasParameters result (variables_from state.now 0 (here tree.now i)) }
 {
-    match parameter_sorts_at(alloc, state, tree, i) {
-        Err(_) => Err(Stop::Memory),
-        Ok(sorts) => {
-            let sorts = Numbers::from_slice(alloc, sorts.as_slice())?;
-            Ok(Parameters { bound, sorts })
+    match variables_at(alloc, state, tree, i) {
+        Err(stop) => Err(stop),
+        Ok(variables) => {
+            let parameters = with_sorts(alloc, variables.as_slice())?;
+            Ok(parameters)
         }
     }
 }
@@ -90,10 +92,7 @@ fn parameters_of(
 {
     match check_parameters(alloc, tree, i) {
         Err(stop) => Err(stop),
-        Ok(()) => match read_variables(alloc, state, tree, i) {
-            Err(stop) => Err(stop),
-            Ok(bound) => with_sorts(alloc, state, tree, i, bound),
-        },
+        Ok(()) => read_parameters(alloc, state, tree, i),
     }
 }
 

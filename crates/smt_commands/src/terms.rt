@@ -8,7 +8,8 @@ ghost use Rattle.smt_commands.specs.declared.command.Command.TheVariants.{Silent
 ghost use Rattle.smt_terms.specs.Cursor.{here, word_at};
 ghost use Rattle.smt_terms.specs.Machine.{scope_of};
 ghost use Rattle.smt_commands.specs.Answers.{Answers};
-ghost use Rattle.smt_commands.specs.Commands.{assert_truth, asserted_term, begun, define_fun, defined_by, sorted_value, sorts_of};
+ghost use Rattle.smt_commands.specs.Commands.{assert_truth, asserted_term, begun, define_fun, defined_by, sorted_value};
+ghost use Rattle.smt_terms.specs.Scopes.{sorts_of};
 ghost use Rattle.smt_commands.specs.SessionLaws.{IsSound};
 
 use crate::command::Command;

@@ -196,7 +196,8 @@ fn apply_definition_at(
 /// `name` is what the head stands for, `head` its place and `called` its text. What is put has the place `at`, that of the list
 /// or token. A wrong number is refused at the head with its text, then the first argument of another sort at its place, then
 /// branches of `ite` that are no formulas at the head, then the first argument that lacks a complement which the form needs at its
-/// place, and last a row or node that there is no room for at `at`. Rows and nodes that were put before a refusal stay.
+/// place, and last a row or node that there is no room for at `at`. After an error the formula is of no further use: some of its
+/// rows and nodes may have been put.
 pub fn apply(
     alloc: Global,
     draft: &mut FormulaDraft,

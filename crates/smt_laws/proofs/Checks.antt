@@ -8,7 +8,7 @@ use Rattle.smt_names.specs.declared.refusal.Refusal.{Refusal}
 use Rattle.smt_names.specs.declared.refusal.Refusal.TheVariants as refusal
 use Rattle.smt_names.specs.Making.{Making, ◌>>◌, bad_form, want}
 use Rattle.smt_names.specs.Names.{State, is_symbol, is_keyword, is_reserved, is_wide, known_sort, sort_number, sort_of_token}
-use Rattle.smt_terms.specs.Meant.{Meaning, Meant, End, Token, Group, from, first_place, no_more, at_least, exactly, token_first, Listed, list_first, sort_first, other_sort, new_binding, binding_name, bindings_after, some_bindings, attributes_after, attributes_of}
+use Rattle.smt_terms.specs.Meant.{Meaning, Meant, End, Token, Group, from, first_place, no_more, at_least, exactly, token_first, Listed, list_first, sort_first, other_sort, new_binding, head_place, binding_name, bindings_after, some_bindings, attributes_after, attributes_of}
 use Rattle.smt_laws.proofs.Making.{Setting, Sound, Good, refuses, good_then, good_made, good_want, good_as}
 
 -- each list among the trees has a meaning for which this holds
@@ -62,7 +62,7 @@ module _ (s : Setting) where
 
   passes_binding_name : (draft : Draft) (names : List (List ℕ)) (paren : Word) (inner : Meant) → Sound s draft → Passed draft (binding_name names paren inner)
   passes_binding_name draft names paren inner sound =
-      good_then s draft _ (passes_exactly draft 2 paren.place inner sound) λ _ d1 k1 e1 _. passes_new_binding d1 names paren.place inner k1
+      good_then s draft _ (passes_exactly draft 2 (head_place paren.place inner) inner sound) λ _ d1 k1 e1 _. passes_new_binding d1 names paren.place inner k1
 
   pub passes_bindings : (draft : Draft) (names : List (List ℕ)) (trees : Meant) → Sound s draft → Passed draft (bindings_after names trees)
   passes_bindings draft names End sound = good_made s draft (tt {0}) sound (tt {0})

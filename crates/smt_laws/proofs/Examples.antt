@@ -16,7 +16,7 @@ use Rattle.smt_forms.specs.Nodes.{connected}
 use Rattle.smt_forms.specs.Applied.{applied}
 use Rattle.smt_terms.specs.Terms.{value, meant, list_value, form_of, token_value}
 use Rattle.smt_laws.specs.Sound.{IsFunction, AreDeclared}
-use Rattle.smt_laws.specs.Laws.{outside}
+use Rattle.smt_terms.specs.Scopes.{outside}
 use Rattle.smt_laws.proofs.Formulas.{makes_formulas}
 
 abbrev here : Place

@@ -32,7 +32,7 @@ use Rattle.smt_terms.specs.Terms.{token_value, variables_from, Attribute, attrib
 use Rattle.smt_laws.specs.Sorted.{HasSort, IsPlain, IsTruth, IsSortedTrigger}
 use Rattle.smt_laws.specs.Sound.{Fits}
 use Rattle.smt_laws.proofs.Standing.{Stood, may_hold, IsScope}
-use Rattle.smt_laws.specs.Laws.{sorts_of}
+use Rattle.smt_terms.specs.Scopes.{sorts_of}
 use Rattle.smt_laws.proofs.Growing.{keeps_all, keeps_none, Extends, rows_keep, foralls_keep, sort_kept, plain_kept, sort_stands, plain_stands, truth_kept}
 use Rattle.smt_laws.proofs.Making.{Setting, Sort, Plain, Truth, Sound, Good, makes, refuses, plain_later, sort_later, good_then, good_made, good_want, good_as, good_node}
 use Rattle.smt_laws.proofs.Values.{FitsIn, IsFormula, formula_of, Each, none, more, each_append}
@@ -158,7 +158,7 @@ positive (Atom p r) = p
 positive x = false
 
 atom_of : {functions : List Declared} {variables : List ℕ} {rows : List DraftRow} {nodes : List DraftNode} (n r : ℕ) → slice_get nodes n ≡ Some (Atom true r) → IsPlain functions variables rows nodes n → HasSort functions variables rows r 0
-atom_of n r at (IsPlain.equation {left = left} {right = right} {positive = p} stands x y) = absurd (other_kind (same_Some (Atom true r) (Equal p left right) (sym at ∙ stands)))
+atom_of n r at (IsPlain.equation {left = left} {right = right} {positive = p} stands other x y) = absurd (other_kind (same_Some (Atom true r) (Equal p left right) (sym at ∙ stands)))
   where
     other_kind : ◌≡◌ {A = DraftNode} (Atom true r) (Equal p left right) → ⊥
     other_kind same = true≢false (ap positive same)
@@ -428,7 +428,7 @@ module _ (valid : MakesValid) (scope : Scope) (may : may_hold scope ≡ true) wh
     unfolding Put
     good_forall_node paren draft index new sound at same plain sorted = good_node outer paren draft sound (Forall index) (λ d n. Truth outer d n)
         (record { rows_stand = All-nil (λ row. row < length draft.rows); parts_stand = All-nil (λ n. n < length draft.nodes); foralls_stand = All-cons (λ n. n < length draft.foralls) index [] (slice_get_within draft.foralls index new at) (All-nil (λ n. n < length draft.foralls)) })
-        (λ later n extends stands. (IsTruth.universal stands (foralls_keep draft later extends index new at) (record { sorts = sorts_of bound; count = same; body = plain_later inner draft later extends plain; triggers = sorted }), λ w. absurd (true≢false (sym w ∙ whole_is))))
+        (λ later n extends stands. (IsTruth.universal stands (foralls_keep draft later extends index new at) (record { sorts = sorts_of bound; count = same; others = others_of are; body = plain_later inner draft later extends plain; triggers = sorted }), λ w. absurd (true≢false (sym w ∙ whole_is))))
 
     good_quantified : (paren head : Place) (draft : Draft) (body : Body) → Sound outer draft → IsScope [] draft scope → BodyMeans body → Good outer draft (λ d v. FitsIn outer d v) (quantified paren head scope bound body draft)
     good_quantified paren head draft body sound is means =

@@ -175,7 +175,7 @@ module _ (s : Setting) (at : Place) where
   good_equal_of_two sort draft (Term row found) b sound a_is b_is =
       let left = a_is.fits.0 in
       let right = term_of s draft b found (b_is.sort_is ∙ sym a_is.sort_is) a_is.fits.1 b_is.fits in
-      good_both s at draft sound (Equal true row (row_of b)) (Equal false row (row_of b)) (found, left, right) (found, left, right)
+      good_both s at draft sound (Equal true row (row_of b)) (Equal false row (row_of b)) (found, a_is.fits.1, left, right) (found, a_is.fits.1, left, right)
 
   equated_all : (sort : ℕ) (old new : Draft) → Extends old new → {parts : List Value} → Each (Equated s sort old) parts → Each (Equated s sort new) parts
   equated_all sort old new extends = each_map (equated_later s sort old new extends)

@@ -21,7 +21,8 @@ use Rattle.smt_terms.specs.Terms.{meant, variables_from}
 use Rattle.smt_laws.specs.Sorted.{IsPlain}
 use Rattle.smt_laws.specs.Sound.{Fits, IsWhole, IsDefinition, inside, AreDeclared}
 use Rattle.smt_laws.proofs.Standing.{Stood, IsScope}
-use Rattle.smt_laws.specs.Laws.{outside, MakesFormulas, sorts_of, inside_definition, MakesDefinitions, KeepsDefinitions}
+use Rattle.smt_terms.specs.Scopes.{outside, sorts_of, inside_definition}
+use Rattle.smt_laws.specs.Laws.{MakesFormulas, MakesDefinitions, KeepsDefinitions}
 use Rattle.smt_laws.proofs.Growing.{Keeps, keeps_all, keeps_front, sort_kept, plain_kept, truth_stands}
 use Rattle.smt_laws.proofs.Making.{Setting, Sound, Good, makes}
 use Rattle.smt_laws.proofs.Values.{FitsIn, formula_of}

@@ -49,7 +49,7 @@ module _ (functions functions' : List Declared) (more_functions : Keeps function
     module _ (variables variables' : List ℕ) (more_variables : Keeps variables variables') where
       mutual
         pub plain_kept : {n : ℕ} → IsPlain functions variables rows nodes n → IsPlain functions' variables' rows' nodes' n
-        plain_kept (IsPlain.equation {n = n} at left right) = IsPlain.equation (more_nodes n _ at) (sort_kept functions functions' more_functions rows rows' more_rows variables variables' more_variables left) (sort_kept functions functions' more_functions rows rows' more_rows variables variables' more_variables right)
+        plain_kept (IsPlain.equation {n = n} at other left right) = IsPlain.equation (more_nodes n _ at) other (sort_kept functions functions' more_functions rows rows' more_rows variables variables' more_variables left) (sort_kept functions functions' more_functions rows rows' more_rows variables variables' more_variables right)
         plain_kept (IsPlain.atom {n = n} at row) = IsPlain.atom (more_nodes n _ at) (sort_kept functions functions' more_functions rows rows' more_rows variables variables' more_variables row)
         plain_kept (IsPlain.each {n = n} at parts) = IsPlain.each (more_nodes n _ at) (plains_kept parts)
         plain_kept (IsPlain.one {n = n} at parts) = IsPlain.one (more_nodes n _ at) (plains_kept parts)
@@ -59,7 +59,7 @@ module _ (functions functions' : List Declared) (more_functions : Keeps function
         plains_kept (ArePlain.more first others) = ArePlain.more (plain_kept first) (plains_kept others)
 
     pub sorted_kept : (forall : DraftForall) → IsSorted functions rows nodes forall → IsSorted functions' rows' nodes' forall
-    sorted_kept forall is = record { sorts = is.sorts; count = is.count; body = plain_kept is.sorts is.sorts (keeps_all is.sorts) is.body; triggers = All-weaker (IsSortedTrigger functions is.sorts) (IsSortedTrigger functions' is.sorts) (λ t. trigger_kept functions functions' more_functions is.sorts t) forall.triggers is.triggers }
+    sorted_kept forall is = record { sorts = is.sorts; count = is.count; others = is.others; body = plain_kept is.sorts is.sorts (keeps_all is.sorts) is.body; triggers = All-weaker (IsSortedTrigger functions is.sorts) (IsSortedTrigger functions' is.sorts) (λ t. trigger_kept functions functions' more_functions is.sorts t) forall.triggers is.triggers }
 
     module _ (foralls foralls' : List DraftForall) (more_foralls : Keeps foralls foralls') (variables variables' : List ℕ) (more_variables : Keeps variables variables') where
       mutual
@@ -79,7 +79,7 @@ sort_stands {rows = rows} (variable {row = row} at is) = slice_get_within rows r
 sort_stands {rows = rows} (application place {row = row} at is args) = slice_get_within rows row _ at
 
 pub plain_stands : {functions : List Declared} {variables : List ℕ} {rows : List DraftRow} {nodes : List DraftNode} {n : ℕ} → IsPlain functions variables rows nodes n → n < length nodes
-plain_stands {nodes = nodes} (IsPlain.equation {n = n} at left right) = slice_get_within nodes n _ at
+plain_stands {nodes = nodes} (IsPlain.equation {n = n} at other left right) = slice_get_within nodes n _ at
 plain_stands {nodes = nodes} (IsPlain.atom {n = n} at row) = slice_get_within nodes n _ at
 plain_stands {nodes = nodes} (IsPlain.each {n = n} at parts) = slice_get_within nodes n _ at
 plain_stands {nodes = nodes} (IsPlain.one {n = n} at parts) = slice_get_within nodes n _ at

@@ -16,3 +16,4 @@ pub mod Foralls
 pub mod Terms
 pub mod Formulas
 pub mod Examples
+pub mod Triggers

@@ -147,8 +147,8 @@ module _ (s : Setting) (at : Place) (functions_are : (n : ℕ) (f : Declared) �
 
     node_moved : (draft : Draft) → RowsMoved draft rows → (moved : List ℕ) → NodesMoved draft moved → (next : DraftNode) → slice_get d.nodes (length moved) ≡ Some next → All (λ n. n < length moved) (parts_of next)
         → IsPlain s.functions d.parameters d.rows d.nodes (length moved) → PlainNode s draft (moved_node rows moved next)
-    node_moved draft have moved nodes next at below (IsPlain.equation {left = left} {right = right} {sort = sort} {positive = positive} stands l r) =
-        subst (λ x. PlainNode s draft (moved_node rows moved x)) (same_Some (Equal positive left right) next (sym stands ∙ at)) (sort, row_moved draft have left sort l, row_moved draft have right sort r)
+    node_moved draft have moved nodes next at below (IsPlain.equation {left = left} {right = right} {sort = sort} {positive = positive} stands other l r) =
+        subst (λ x. PlainNode s draft (moved_node rows moved x)) (same_Some (Equal positive left right) next (sym stands ∙ at)) (sort, other, row_moved draft have left sort l, row_moved draft have right sort r)
     node_moved draft have moved nodes next at below (IsPlain.atom {row = row} {positive = positive} stands r) =
         subst (λ x. PlainNode s draft (moved_node rows moved x)) (same_Some (Atom positive row) next (sym stands ∙ at)) (row_moved draft have row 0 r)
     node_moved draft have moved nodes next at below (IsPlain.each {parts = parts} stands ps) =

@@ -48,14 +48,14 @@ module _ (functions : List Declared) (variables : List ℕ) (rows : List DraftRo
     plain_at (suc i) n (ArePlain.more is rest) at = plain_at i n rest at
 
     part_plain : (n part : ℕ) (node : DraftNode) → slice_get nodes n ≡ Some node → Contains (parts_of node) part → IsPlain functions variables rows nodes n → IsPlain functions variables rows nodes part
-    part_plain n part node at is (IsPlain.equation {left = left} {right = right} {positive = positive} stands l r) = absurd (nothing_in part (subst (λ x. Contains (parts_of x) part) (same_Some node (Equal positive left right) (sym at ∙ stands)) is))
+    part_plain n part node at is (IsPlain.equation {left = left} {right = right} {positive = positive} stands other l r) = absurd (nothing_in part (subst (λ x. Contains (parts_of x) part) (same_Some node (Equal positive left right) (sym at ∙ stands)) is))
     part_plain n part node at is (IsPlain.atom {row = row} {positive = positive} stands r) = absurd (nothing_in part (subst (λ x. Contains (parts_of x) part) (same_Some node (Atom positive row) (sym at ∙ stands)) is))
     part_plain n part node at is (IsPlain.each {parts = parts} stands ps) = let here = place_from_Contains parts part (subst (λ x. Contains (parts_of x) part) (same_Some node (And parts) (sym at ∙ stands)) is) in plain_at here.0 part ps here.1
     part_plain n part node at is (IsPlain.one {parts = parts} stands ps) = let here = place_from_Contains parts part (subst (λ x. Contains (parts_of x) part) (same_Some node (Or parts) (sym at ∙ stands)) is) in plain_at here.0 part ps here.1
 
     -- the rows that a plain node names have sorts
     plain_row : (n row : ℕ) (node : DraftNode) → slice_get nodes n ≡ Some node → Contains (rows_of node) row → IsPlain functions variables rows nodes n → (sort : ℕ) × HasSort functions variables rows row sort
-    plain_row n row node at is (IsPlain.equation {left = left} {right = right} {sort = sort} {positive = positive} stands l r) =
+    plain_row n row node at is (IsPlain.equation {left = left} {right = right} {sort = sort} {positive = positive} stands other l r) =
         let here = place_from_Contains (left ∷ right ∷ []) row (subst (λ x. Contains (rows_of x) row) (same_Some node (Equal positive left right) (sym at ∙ stands)) is) in
         sorted_at here.0 row (HaveSorts.more l (HaveSorts.more r HaveSorts.none)) here.1
     plain_row n row node at is (IsPlain.atom {row = atom} {positive = positive} stands r) =
@@ -65,7 +65,7 @@ module _ (functions : List Declared) (variables : List ℕ) (rows : List DraftRo
     plain_row n row node at is (IsPlain.one {parts = parts} stands ps) = absurd (nothing_in row (subst (λ x. Contains (rows_of x) row) (same_Some node (Or parts) (sym at ∙ stands)) is))
 
     pub foralls_none : (n index : ℕ) → slice_get nodes n ≡ Some (Forall index) → IsPlain functions variables rows nodes n → ⊥
-    foralls_none n index at (IsPlain.equation {left = left} {right = right} {positive = positive} stands l r) = no_forall (Equal positive left right) index refl (same_Some (Forall index) (Equal positive left right) (sym at ∙ stands))
+    foralls_none n index at (IsPlain.equation {left = left} {right = right} {positive = positive} stands other l r) = no_forall (Equal positive left right) index refl (same_Some (Forall index) (Equal positive left right) (sym at ∙ stands))
     foralls_none n index at (IsPlain.atom {row = row} {positive = positive} stands r) = no_forall (Atom positive row) index refl (same_Some (Forall index) (Atom positive row) (sym at ∙ stands))
     foralls_none n index at (IsPlain.each {parts = parts} stands ps) = no_forall (And parts) index refl (same_Some (Forall index) (And parts) (sym at ∙ stands))
     foralls_none n index at (IsPlain.one {parts = parts} stands ps) = no_forall (Or parts) index refl (same_Some (Forall index) (Or parts) (sym at ∙ stands))

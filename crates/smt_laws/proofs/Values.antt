@@ -17,7 +17,7 @@ use Rattle.smt_laws.proofs.Making.{Setting, Sort, Plain, Plains, Truth, Truths, 
 
 -- a plain node over what stands
 abbrev pub PlainNode : Setting → Draft → DraftNode → Type 0
-PlainNode s draft (Equal positive left right) = (sort : ℕ) × Sort s draft left sort × Sort s draft right sort
+PlainNode s draft (Equal positive left right) = (sort : ℕ) × (1 ≤ sort) × Sort s draft left sort × Sort s draft right sort
 PlainNode s draft (Atom positive row) = Sort s draft row 0
 PlainNode s draft (And parts) = Plains s draft parts
 PlainNode s draft (Or parts) = Plains s draft parts
@@ -42,7 +42,7 @@ truths_stand s draft (AreTruths.more {n = n} {others = others} first rest) = All
 module _ (s : Setting) (draft : Draft) where
   plain_node_fits : (new : DraftNode) → PlainNode s draft new → FitsNode (length draft.rows) (length draft.nodes) (length draft.foralls) new
   plain_node_fits (Equal positive left right) is = record {
-    rows_stand = All-cons (λ row. row < length draft.rows) left (right ∷ []) (sort_stands is.1) (All-cons (λ row. row < length draft.rows) right [] (sort_stands is.2) (All-nil (λ row. row < length draft.rows)));
+    rows_stand = All-cons (λ row. row < length draft.rows) left (right ∷ []) (sort_stands is.2) (All-cons (λ row. row < length draft.rows) right [] (sort_stands is.3) (All-nil (λ row. row < length draft.rows)));
     parts_stand = All-nil (λ n. n < length draft.nodes);
     foralls_stand = All-nil (λ n. n < length draft.foralls);
   }
@@ -56,7 +56,7 @@ module _ (s : Setting) (draft : Draft) where
   plain_node_fits (Forall index) is = absurd is
 
   plain_node_is : (new : DraftNode) → PlainNode s draft new → (later : Draft) (n : ℕ) → Extends draft later → slice_get later.nodes n ≡ Some new → Plain s later n
-  plain_node_is (Equal positive left right) is later n extends at = IsPlain.equation at (sort_later s draft later extends is.1) (sort_later s draft later extends is.2)
+  plain_node_is (Equal positive left right) is later n extends at = IsPlain.equation at is.1 (sort_later s draft later extends is.2) (sort_later s draft later extends is.3)
   plain_node_is (Atom positive row) is later n extends at = IsPlain.atom at (sort_later s draft later extends is)
   plain_node_is (And parts) is later n extends at = IsPlain.each at (plains_later s draft later extends is)
   plain_node_is (Or parts) is later n extends at = IsPlain.one at (plains_later s draft later extends is)
@@ -77,7 +77,7 @@ module _ (s : Setting) (draft : Draft) where
   truth_node_is (Forall index) is later n extends at = absurd is
 
   pub plain_node_later : (later : Draft) → Extends draft later → (new : DraftNode) → PlainNode s draft new → PlainNode s later new
-  plain_node_later later extends (Equal positive left right) is = (is.0, sort_later s draft later extends is.1, sort_later s draft later extends is.2)
+  plain_node_later later extends (Equal positive left right) is = (is.0, is.1, sort_later s draft later extends is.2, sort_later s draft later extends is.3)
   plain_node_later later extends (Atom positive row) is = sort_later s draft later extends is
   plain_node_later later extends (And parts) is = plains_later s draft later extends is
   plain_node_later later extends (Or parts) is = plains_later s draft later extends is

@@ -1,40 +1,23 @@
 -- The laws of elaboration.
-use Rattle.std.specs.Prelude.{◌≡◌, ℕ, false, true, List, [], ◌++◌, map, Ok}
+use Rattle.std.specs.Prelude.{◌≡◌, ℕ, List, [], ◌++◌, Ok}
 use Rattle.smt_text.specs.declared.token.Place.{Place}
 use Rattle.smt_text.specs.Trees.{Trees}
 use Rattle.formula_draft.specs.Draft.{Draft, IsFormula, empty_draft, finished}
 use Rattle.smt_names.specs.declared.value.Value.{Value}
 use Rattle.smt_names.specs.declared.bound.Bound.{Bound}
-use Rattle.smt_names.specs.declared.stands.Stands.{Stands}
-use Rattle.smt_names.specs.declared.stands.Stands.TheVariants.{Given, Variable}
 use Rattle.smt_names.specs.Value.{sort_of, self}
-use Rattle.smt_names.specs.Names.{State, Scope, Declared, Defined}
+use Rattle.smt_names.specs.Names.{State, Declared, Defined}
 use Rattle.smt_terms.specs.Meant.{Meant}
 use Rattle.smt_terms.specs.Terms.{value, meant, variables_from}
+use Rattle.smt_terms.specs.Scopes.{outside, sorts_of, inside_definition}
 use Rattle.smt_laws.specs.Sorted.{IsTruth}
 use Rattle.smt_laws.specs.Sound.{IsDefinition, AreDeclared}
-
--- outside foralls and definitions
-abbrev pub outside : State → Scope
-outside state = record { state = state; bound = []; in_forall = false; in_definition = false }
 
 -- What a formula outside foralls and definitions makes of nothing is a formula, sorted as the functions are declared.
 abbrev pub MakesFormulas : Type 0
 MakesFormulas = (state : State) (missing : Place) (trees : Trees) (most_rows most_nodes : ℕ) (v : Value) (later : Draft) → AreDeclared state.functions state.definitions
     → value missing (outside state) (meant trees) (empty_draft most_rows most_nodes) ≡ Ok (v, later) → sort_of v ≡ 0
     → IsFormula (finished later (self v)) × IsTruth state.functions [] later.rows later.nodes later.foralls (self v)
-
--- the sorts of variables
-abbrev pub sort_of_stands : Stands → ℕ
-sort_of_stands (Given v) = sort_of v
-sort_of_stands (Variable index sort) = sort
-
-abbrev pub sorts_of : List Bound → List ℕ
-sorts_of bound = map (λ (b : Bound). sort_of_stands b.stands) bound
-
--- inside a definition of these parameters
-abbrev pub inside_definition : State → List Bound → Scope
-inside_definition state parameters = record { state = state; bound = parameters; in_forall = false; in_definition = true }
 
 -- What a term inside a definition makes of nothing is right for its parameters.
 abbrev pub MakesDefinitions : Type 0

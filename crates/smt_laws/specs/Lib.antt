@@ -1,3 +1,4 @@
 pub mod Sorted
 pub mod Sound
+pub mod Triggers
 pub mod Laws

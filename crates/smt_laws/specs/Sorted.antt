@@ -1,5 +1,5 @@
 -- Which sorts rows have, and which nodes are formulas.
-use Rattle.std.specs.Prelude.{◌≡◌, ℕ, ◌+◌, ◌<◌, Bool, List, [], ◌∷◌, map, length, slice_get, Some, All}
+use Rattle.std.specs.Prelude.{◌≡◌, ℕ, ◌+◌, ◌<◌, ◌≤◌, Bool, List, [], ◌∷◌, map, length, slice_get, Some, All}
 use Rattle.graph_trigger.specs.declared.pattern_row.PatternRow.{PatternRow}
 use Rattle.graph_trigger.specs.declared.pattern_row.PatternRow.TheVariants as pattern
 use Rattle.graph_trigger.specs.declared.trigger.Trigger.{Trigger}
@@ -22,9 +22,11 @@ mutual
     more : {row sort : ℕ} {others sorts : List ℕ} → HasSort functions variables rows row sort → HaveSorts functions variables rows others sorts → HaveSorts functions variables rows (row ∷ others) (sort ∷ sorts)
 
 mutual
-  -- The node is a formula that holds no forall: equations of rows of one sort, and atoms of sort Bool, under And and Or.
+  -- The node is a formula that holds no forall: equations of rows of one sort, which is not Bool, and atoms, rows of sort Bool,
+  -- under And and Or.
   pub data IsPlain (functions : List Declared) (variables : List ℕ) (rows : List DraftRow) (nodes : List DraftNode) : ℕ → Type 0 where
-    equation : {n left right sort : ℕ} {positive : Bool} → slice_get nodes n ≡ Some (Equal positive left right) → HasSort functions variables rows left sort → HasSort functions variables rows right sort → IsPlain functions variables rows nodes n
+    equation : {n left right sort : ℕ} {positive : Bool} → slice_get nodes n ≡ Some (Equal positive left right) → 1 ≤ sort
+        → HasSort functions variables rows left sort → HasSort functions variables rows right sort → IsPlain functions variables rows nodes n
     atom : {n row : ℕ} {positive : Bool} → slice_get nodes n ≡ Some (Atom positive row) → HasSort functions variables rows row 0 → IsPlain functions variables rows nodes n
     each : {n : ℕ} {parts : List ℕ} → slice_get nodes n ≡ Some (And parts) → ArePlain functions variables rows nodes parts → IsPlain functions variables rows nodes n
     one : {n : ℕ} {parts : List ℕ} → slice_get nodes n ≡ Some (Or parts) → ArePlain functions variables rows nodes parts → IsPlain functions variables rows nodes n
@@ -42,10 +44,12 @@ as_row (pattern.App symbol parts) = App symbol parts
 abbrev pub IsSortedTrigger : List Declared → List ℕ → Trigger → Type 0
 IsSortedTrigger functions variables trigger = (row : ℕ) → row < length trigger.rows → (sort : ℕ) × HasSort functions variables (map as_row trigger.rows) row sort
 
--- The variables of a forall have sorts by which its body is a formula that holds no forall, and the rows of its triggers have sorts.
+-- The variables of a forall have sorts, of which none is Bool, by which its body is a formula that holds no forall, and the
+-- rows of its triggers have sorts.
 pub record IsSorted (functions : List Declared) (rows : List DraftRow) (nodes : List DraftNode) (forall : DraftForall) : Type 0 where
   pub sorts : List ℕ
   pub count : length sorts ≡ forall.variables
+  pub others : All (λ sort. 1 ≤ sort) sorts
   pub body : IsPlain functions sorts rows nodes forall.body
   pub triggers : All (IsSortedTrigger functions sorts) forall.triggers
 

@@ -7,13 +7,16 @@ use crate::syntax_fault::SyntaxFault;
 use graph_terms::{Memory, Name};
 use smt_text::Place;
 use std::alloc::{AllocError, AllocFailed, Global};
+use thiserror::Error;
 
 /// Why a step stopped.
-#[derive(Debug, Drop)]
+#[derive(Debug, Drop, Error)]
 pub enum Stop {
     /// Memory was refused.
+    #[error("no memory")]
     Memory,
     /// The command is refused.
+    #[error(transparent)]
     Refused(SyntaxFault),
 }
 

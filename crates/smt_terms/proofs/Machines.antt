@@ -16,12 +16,12 @@ use Rattle.smt_names.specs.Making.{Making, made, then_from, ◌>>=◌}
 use Rattle.smt_names.specs.Names.{State, Scope, named_by}
 use Rattle.smt_forms.specs.Applied.{applied}
 use Rattle.smt_terms.specs.declared.frame.Frame.{Frame}
-use Rattle.smt_terms.specs.declared.frame.Work.{Work}
-use Rattle.smt_terms.specs.declared.frame.Work.TheVariants.{Apply, Let, Pass}
-use Rattle.smt_terms.specs.declared.frame.Inside.{Inside}
-use Rattle.smt_terms.specs.declared.frame.Given.{Given}
-use Rattle.smt_terms.specs.declared.frame.Given.TheVariants as given
-use Rattle.smt_terms.specs.declared.frame.Next.TheVariants as step
+use Rattle.smt_terms.specs.declared.work.Work.{Work}
+use Rattle.smt_terms.specs.declared.work.Work.TheVariants.{Apply, Let, Pass}
+use Rattle.smt_terms.specs.declared.inside.Inside.{Inside}
+use Rattle.smt_terms.specs.declared.given.Given.{Given}
+use Rattle.smt_terms.specs.declared.given.Given.TheVariants as given
+use Rattle.smt_terms.specs.declared.next.Next.TheVariants as step
 use Rattle.smt_terms.specs.Meant.{Meant, Meaning, End, Token, Group}
 use Rattle.smt_terms.specs.Terms.{value, values, bind, bound_values, token_value}
 use Rattle.smt_terms.specs.Cursor.{word_at, here, is_binding, SeesBinding}

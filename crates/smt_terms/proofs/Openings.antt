@@ -19,11 +19,11 @@ use Rattle.smt_names.specs.Makes.{Refuses}
 use Rattle.smt_names.specs.Names.{State, Scope, Named, Core, Function, Definition, Unknown, named, named_by, head_of, is_known, is_symbol, bound_as}
 use Rattle.smt_terms.specs.declared.form.Form.TheVariants as form
 use Rattle.smt_terms.specs.declared.frame.Frame.{Frame}
-use Rattle.smt_terms.specs.declared.frame.Work.TheVariants.{Apply, Pass}
-use Rattle.smt_terms.specs.declared.frame.Inside.{Inside}
-use Rattle.smt_terms.specs.declared.frame.Opened.{Opened}
-use Rattle.smt_terms.specs.declared.frame.Opened.TheVariants as opened
-use Rattle.smt_terms.specs.declared.frame.Next.TheVariants as step
+use Rattle.smt_terms.specs.declared.work.Work.TheVariants.{Apply, Pass}
+use Rattle.smt_terms.specs.declared.inside.Inside.{Inside}
+use Rattle.smt_terms.specs.declared.opened.Opened.{Opened}
+use Rattle.smt_terms.specs.declared.opened.Opened.TheVariants as opened
+use Rattle.smt_terms.specs.declared.next.Next.TheVariants as step
 use Rattle.smt_terms.specs.Meant.{Meant, Meaning, End, Token, Group, Listed, from, exactly, some_bindings, attributes_of}
 use Rattle.smt_terms.specs.Terms.{value, values, bound_values, form_of, form_value, let_value, annotated_value, named_value, list_value, forall_value}
 use Rattle.smt_terms.specs.Cursor.{word_at, here, SeesList}

@@ -11,15 +11,15 @@ use Rattle.smt_names.specs.Making.{then_from, fault_of}
 use Rattle.smt_names.specs.Makes.{Refuses}
 use Rattle.smt_names.specs.Names.{State}
 use Rattle.smt_terms.specs.declared.frame.Frame.{Frame}
-use Rattle.smt_terms.specs.declared.frame.Work.{Work}
-use Rattle.smt_terms.specs.declared.frame.Work.TheVariants.{Apply, Let, Pass}
-use Rattle.smt_terms.specs.declared.frame.Inside.{Inside}
-use Rattle.smt_terms.specs.declared.frame.Opened.{Opened}
-use Rattle.smt_terms.specs.declared.frame.Opened.TheVariants as opened
-use Rattle.smt_terms.specs.declared.frame.Next.{Next}
-use Rattle.smt_terms.specs.declared.frame.Next.TheVariants as step
-use Rattle.smt_terms.specs.declared.frame.Walked.{Walked}
-use Rattle.smt_terms.specs.declared.frame.Step.{Step}
+use Rattle.smt_terms.specs.declared.work.Work.{Work}
+use Rattle.smt_terms.specs.declared.work.Work.TheVariants.{Apply, Let, Pass}
+use Rattle.smt_terms.specs.declared.inside.Inside.{Inside}
+use Rattle.smt_terms.specs.declared.opened.Opened.{Opened}
+use Rattle.smt_terms.specs.declared.opened.Opened.TheVariants as opened
+use Rattle.smt_terms.specs.declared.next.Next.{Next}
+use Rattle.smt_terms.specs.declared.next.Next.TheVariants as step
+use Rattle.smt_terms.specs.declared.walked.Walked.{Walked}
+use Rattle.smt_terms.specs.declared.step.Step.{Step}
 use Rattle.smt_terms.specs.Meant.{Meant, Meaning, End}
 use Rattle.smt_terms.specs.Terms.{value, token_value, list_value, forall_value}
 use Rattle.smt_terms.specs.Cursor.{word_at, here, SeesList, SeesToken}

@@ -5,3 +5,4 @@ pub mod Machine
 pub mod Checks
 pub mod Bodies
 pub mod Triggers
+pub mod Scopes

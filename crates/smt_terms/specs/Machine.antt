@@ -15,19 +15,19 @@ use Rattle.smt_names.specs.Makes.{Refuses}
 use Rattle.smt_names.specs.Names.{State, Scope, Unknown, named, named_by, head_of, is_known}
 use Rattle.smt_forms.specs.Applied.{applied}
 use Rattle.smt_terms.specs.declared.frame.Frame.{Frame}
-use Rattle.smt_terms.specs.declared.frame.Work.{Work}
-use Rattle.smt_terms.specs.declared.frame.Work.TheVariants.{Apply, Let, Pass}
-use Rattle.smt_terms.specs.declared.frame.Inside.{Inside}
-use Rattle.smt_terms.specs.declared.frame.Next.{Next}
-use Rattle.smt_terms.specs.declared.frame.Next.TheVariants as step
-use Rattle.smt_terms.specs.declared.frame.Given.{Given}
-use Rattle.smt_terms.specs.declared.frame.Given.TheVariants as given
-use Rattle.smt_terms.specs.declared.frame.Opened.{Opened}
-use Rattle.smt_terms.specs.declared.frame.Opened.TheVariants as opened
-use Rattle.smt_terms.specs.declared.frame.Step.{Step}
-use Rattle.smt_terms.specs.declared.frame.Step.TheVariants as kind
-use Rattle.smt_terms.specs.declared.frame.Walked.{Walked}
-use Rattle.smt_terms.specs.declared.frame.Walked.TheVariants as walked
+use Rattle.smt_terms.specs.declared.work.Work.{Work}
+use Rattle.smt_terms.specs.declared.work.Work.TheVariants.{Apply, Let, Pass}
+use Rattle.smt_terms.specs.declared.inside.Inside.{Inside}
+use Rattle.smt_terms.specs.declared.next.Next.{Next}
+use Rattle.smt_terms.specs.declared.next.Next.TheVariants as step
+use Rattle.smt_terms.specs.declared.given.Given.{Given}
+use Rattle.smt_terms.specs.declared.given.Given.TheVariants as given
+use Rattle.smt_terms.specs.declared.opened.Opened.{Opened}
+use Rattle.smt_terms.specs.declared.opened.Opened.TheVariants as opened
+use Rattle.smt_terms.specs.declared.step.Step.{Step}
+use Rattle.smt_terms.specs.declared.step.Step.TheVariants as kind
+use Rattle.smt_terms.specs.declared.walked.Walked.{Walked}
+use Rattle.smt_terms.specs.declared.walked.Walked.TheVariants as walked
 use Rattle.smt_terms.specs.Meant.{Meant, Meaning, End, Token, Group}
 use Rattle.smt_terms.specs.Terms.{value, values, bind, bound_values, forall_value, list_value}
 use Rattle.smt_terms.specs.Cursor.{word_at, here, SeesList}

@@ -90,10 +90,15 @@ new_binding names missing trees = do
   want (not (list_any (bytes_eq name.text) names)) BadForm name.place
   made name
 
+-- the place of the head of a list, the token that it begins with, or, where it has no head, this one
+abbrev pub head_place : Place → Meant → Place
+head_place paren (Token head parts) = head.place
+head_place paren trees = paren
+
 -- the name of a binding, a list of a name, which none of these is, and of one tree more
 abbrev pub binding_name : List (List ℕ) → Word → Meant → Making Word
 binding_name names paren inner = do
-  exactly 2 paren.place inner
+  exactly 2 (head_place paren.place inner) inner
   new_binding names paren.place inner
 
 -- the bindings of a let, a forall or a definition after those of these names: none has a name twice

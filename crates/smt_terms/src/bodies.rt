@@ -10,9 +10,8 @@ ghost use Rattle.smt_terms.specs.Bodies.{attribute_at, attributes_at, IsAnnotate
 
 use crate::checks::check_attributes;
 use crate::cursor::{Seen, behind_one, behind_some, binding_at, kind_at, look, place_at, text_at};
-use crate::giving::bind_all;
 use graph_terms::{Memory, Name};
-use smt_names::{Bound, BoundNames, Refusal, SessionState, Stands, Stop, is_keyword, is_symbol};
+use smt_names::{Bound, Refusal, SessionState, Stands, Stop, is_keyword, is_symbol};
 use smt_text::{Place, Tree};
 use std::alloc::Global;
 
@@ -73,7 +72,7 @@ fn push_variable(
 }
 
 /// The variables of the bindings that come next, whose form is right.
-pub(crate) fn variables_at(
+pub fn variables_at(
     alloc: Global,
     state: &SessionState,
     tree: &Tree,
@@ -107,25 +106,6 @@ pub(crate) fn variables_at(
                 index += 1;
                 at = binding.behind;
             }
-        }
-    }
-}
-
-/// The variables of the bindings that come next, whose form is right, as bound names.
-pub fn read_variables(
-    alloc: Global,
-    state: &SessionState,
-    tree: &Tree,
-    i: u32,
-) -> Result<BoundNames, Stop>
-    ensures { Checks result (variables_from state.now 0 (here tree.now i)) }
-{
-    match variables_at(alloc, state, tree, i) {
-        Err(stop) => Err(stop),
-        Ok(variables) => {
-            let mut bound = BoundNames::new(alloc);
-            bind_all(&mut bound, variables.as_slice())?;
-            Ok(bound)
         }
     }
 }

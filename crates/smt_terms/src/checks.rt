@@ -1,17 +1,16 @@
 //! Checks of the form of lists.
-ghost use Rattle.std.specs.Prelude.{◌≡◌, ◌<◌, ◌≤◌, ◌^◌, ◌*◌, ◌+◌, ◌-◌, ◌&&◌, not, [], false, length, bytes_eq};
+ghost use Rattle.std.specs.Prelude.{◌≡◌, ◌<◌, ◌≤◌, ◌^◌, ◌*◌, ◌+◌, ◌-◌, ◌&&◌, not, [], false, length, bytes_eq, OnOk};
 ghost use Rattle.std.specs.List.{list_any};
 ghost use Rattle.smt_names.specs.declared.refusal.Refusal.TheVariants.{BadForm};
 ghost use Rattle.smt_names.specs.Makes.{Checks};
 ghost use Rattle.smt_names.specs.Names.{is_wide, word_of};
-ghost use Rattle.smt_terms.specs.Meant.{no_more, at_least, at_most, exactly, bindings_after, binding_name, new_binding, one_or_more, attributes_after, attributes_of};
+ghost use Rattle.smt_terms.specs.Meant.{no_more, at_least, at_most, exactly, bindings_after, binding_name, head_place, new_binding, one_or_more, attributes_after, attributes_of};
 ghost use Rattle.smt_terms.specs.Cursor.{here, word_at};
 ghost use Rattle.smt_terms.specs.Checks.{ChecksAs, HasBindings};
 
 use crate::cursor::{Seen, behind_one, behind_some, kind_at, look, place_at, text_at};
 use crate::numbers::is_wide;
-use graph_terms::Name;
-use smt_names::{Refusal, Stop, check_lawful_name, is_keyword};
+use smt_names::{DistinctNames, Refusal, Stop, check_lawful_name, is_keyword};
 use smt_text::{Place, Tree};
 use std::alloc::Global;
 
@@ -70,22 +69,16 @@ pub fn check_exactly(
     check_at_most(alloc, tree, i, count)
 }
 
-/// Whether the name is one of these.
-fn is_among(names: &[Name], name: &[u8]) -> bool
-    ensures { result ≡ list_any (bytes_eq name.now) names.now }
-{
-    names.iter().any(|n| name == n.as_slice())
-}
-
 /// A token comes next that may be the name of a binding: a lawful name that is none of these.
 fn check_binding_name(
     alloc: Global,
     tree: &Tree,
     i: u32,
-    names: &[Name],
+    names: &DistinctNames,
     missing: Place,
 ) -> Result<(), Stop>
-    ensures { ChecksAs result (word_at tree.now i) (new_binding names.now missing (here tree.now i)) }
+    ensures check { ChecksAs result (word_at tree.now i) (new_binding names.now missing (here tree.now i)) }
+    ensures new { OnOk result (list_any (bytes_eq (word_at tree.now i).text) names.now ≡ false) }
 {
     let place = place_at(tree, i);
     match look(tree, i) {
@@ -96,7 +89,7 @@ fn check_binding_name(
             match check_lawful_name(alloc, kind_at(tree, i), place, name) {
                 Err(stop) => Err(stop),
                 Ok(()) => {
-                    if is_among(names, name) {
+                    if names.contains(name) {
                         Err(Stop::at(alloc, Refusal::BadForm, place))
                     } else {
                         Ok(())
@@ -107,14 +100,26 @@ fn check_binding_name(
     }
 }
 
+/// The place of the head of a list, the token that it begins with, or that of its parenthesis.
+fn head_place_at(tree: &Tree, i: u32, paren: Place) -> Place
+    ensures { result ≡ head_place paren (here tree.now i) }
+{
+    match look(tree, i) {
+        Seen::End => paren,
+        Seen::Token => place_at(tree, i),
+        Seen::List { .. } => paren,
+    }
+}
+
 /// A binding begins at a parenthesis: a name, which must be lawful and none of these, and one tree more.
-fn check_binding(alloc: Global, tree: &Tree, i: u32, names: &[Name]) -> Result<(), Stop>
+fn check_binding(alloc: Global, tree: &Tree, i: u32, names: &DistinctNames) -> Result<(), Stop>
     requires { i < length tree.now }
-    ensures { ChecksAs result (word_at tree.now (i + 1)) (binding_name names.now (word_at tree.now i) (here tree.now (i + 1))) }
+    ensures check { ChecksAs result (word_at tree.now (i + 1)) (binding_name names.now (word_at tree.now i) (here tree.now (i + 1))) }
+    ensures new { OnOk result (list_any (bytes_eq (word_at tree.now (i + 1)).text) names.now ≡ false) }
 {
     let _len = tree.len();
     let paren = place_at(tree, i);
-    match check_exactly(alloc, tree, i + 1, 2, paren) {
+    match check_exactly(alloc, tree, i + 1, 2, head_place_at(tree, i + 1, paren)) {
         Err(stop) => Err(stop),
         Ok(()) => check_binding_name(alloc, tree, i + 1, names, paren),
     }
@@ -124,16 +129,16 @@ fn check_binding(alloc: Global, tree: &Tree, i: u32, names: &[Name]) -> Result<(
 pub fn check_names(alloc: Global, tree: &Tree, i: u32) -> Result<(), Stop>
     ensures { Checks result (bindings_after [] (here tree.now i)) }
 {
-    let mut names = Vec::new(alloc);
+    let mut names = DistinctNames::new(alloc);
     let mut at = i;
     loop {
         match look(tree, at) {
             Seen::End => return Ok(()),
             Seen::Token => return Err(Stop::at(alloc, Refusal::BadForm, place_at(tree, at))),
             Seen::List { after } => {
-                match check_binding(alloc, tree, at, names.as_slice()) {
+                match check_binding(alloc, tree, at, &names) {
                     Err(stop) => return Err(stop),
-                    Ok(()) => names.push(Name::from_slice(alloc, text_at(tree, at + 1))?)?,
+                    Ok(()) => names.push(text_at(tree, at + 1))?,
                 }
                 at = after;
             }

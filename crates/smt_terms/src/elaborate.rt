@@ -8,8 +8,11 @@ ghost use Rattle.smt_terms.specs.Machine.{scope_of, Advances, IsUniversalAt};
 
 use crate::cursor::place_at;
 use crate::foralls::put_forall;
-use crate::frame::{Frame, Inside, Next, Walked};
+use crate::frame::Frame;
 use crate::giving::give;
+use crate::inside::Inside;
+use crate::next::Next;
+use crate::walked::Walked;
 use crate::walking::walk;
 use formula_draft::FormulaDraft;
 use smt_names::{Arg, BoundNames, SessionState, Stop, Value};
@@ -68,6 +71,7 @@ fn advance(
 }
 
 /// The value of the tree at a place, where these names are bound. A tree that is missing is refused at the other place.
+/// After an error the formula and the bound names are of no further use: some of what was under way may have been put.
 pub fn elaborate_term(
     alloc: Global,
     draft: &mut FormulaDraft,

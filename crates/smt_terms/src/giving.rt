@@ -4,14 +4,18 @@ ghost use Rattle.smt_terms.specs.Cursor.{here, word_at};
 ghost use Rattle.smt_terms.specs.Machine.{weight, load, base_of, Continues, Gives, GivesOn, PutsIn, binds_in};
 
 use crate::cursor::{binding_at, text_at};
-use crate::frame::{Frame, Given, Next, Round, Work};
+use crate::frame::Frame;
+use crate::given::Given;
+use crate::next::Next;
+use crate::round::Round;
+use crate::work::Work;
 use graph_terms::{Memory, Name};
 use smt_names::{Arg, Bound, BoundNames, Stands};
 use smt_text::{Place, Tree};
 use std::alloc::Global;
 
 /// Binds more names.
-pub(crate) fn bind_all(bound: &mut BoundNames, more: &[Bound]) -> Result<(), Memory>
+pub fn bind_all(bound: &mut BoundNames, more: &[Bound]) -> Result<(), Memory>
     ensures { OnOk result (bound.new ≡ bound.old ++ more.now) }
 {
     for b in more {

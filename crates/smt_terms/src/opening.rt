@@ -1,7 +1,7 @@
 //! Opens lists.
 ghost use Rattle.std.specs.Prelude.{◌≡◌, ◌<◌, ◌+◌, true, length};
 ghost use Rattle.smt_names.specs.Names.{State, bound_as};
-ghost use Rattle.smt_terms.specs.declared.frame.Inside.{Inside};
+ghost use Rattle.smt_terms.specs.declared.inside.Inside.{Inside};
 ghost use Rattle.smt_terms.specs.Terms.{form_of, form_value, let_value, annotated_value, forall_value, unbound_value, list_value};
 ghost use Rattle.smt_terms.specs.Cursor.{word_at, here, SeesList, SeesToken};
 ghost use Rattle.smt_terms.specs.Machine.{IsHeadOf, Opens, OpensForall, work_in};
@@ -9,8 +9,12 @@ ghost use Rattle.smt_terms.specs.Machine.{IsHeadOf, Opens, OpensForall, work_in}
 use crate::checks::{check_attributes, check_bindings, check_exactly};
 use crate::cursor::{Seen, kind_at, look, place_at, text_at};
 use crate::form::Form;
-use crate::frame::{Frame, Inside, Opened, Round, Work};
+use crate::frame::Frame;
 use crate::giving::enter_binding;
+use crate::inside::Inside;
+use crate::opened::Opened;
+use crate::round::Round;
+use crate::work::Work;
 use smt_names::{BoundNames, Head, Refusal, SessionState, Stop, is_reserved, is_symbol};
 use smt_text::Tree;
 use std::alloc::Global;

@@ -9,7 +9,7 @@ ghost use Rattle.smt_terms.specs.Cursor.{word_at};
 ghost use Rattle.smt_terms.specs.Machine.{scope_of};
 
 use crate::cursor::{kind_at, place_at, text_at};
-use crate::frame::Inside;
+use crate::inside::Inside;
 use formula_draft::{DraftRow, FormulaDraft};
 use smt_forms::{apply, put_row};
 use smt_names::{BoundNames, Head, Refusal, SessionState, Stands, Stop, Value, is_reserved};

@@ -10,7 +10,7 @@ ghost use Rattle.smt_terms.specs.Machine.{scope_of};
 
 use crate::checks::{check_at_least, check_no_more};
 use crate::cursor::{Seen, behind_some, kind_at, look, place_at};
-use crate::frame::Inside;
+use crate::inside::Inside;
 use crate::values::value_inside;
 use formula_draft::FormulaDraft;
 use graph_trigger::{Trigger, Triggers};

@@ -10,7 +10,8 @@ ghost use Rattle.smt_terms.specs.Cursor.{here};
 ghost use Rattle.smt_terms.specs.Machine.{scope_of};
 
 use crate::cursor::{Seen, look, place_at};
-use crate::frame::{Inside, Walked};
+use crate::inside::Inside;
+use crate::walked::Walked;
 use crate::walking::walk;
 use formula_draft::FormulaDraft;
 use smt_names::{BoundNames, Refusal, SessionState, Stop, Value};

@@ -240,6 +240,25 @@ const TERMS: &[(&str, Came)] = &[
     ("(assert (d c))", Asserts(2, 2, 0, 0)),
 ];
 
+/// A binding that lacks a part is refused at its head, and at its parenthesis where it has none.
+const BINDINGS: &[(&str, Came)] = &[
+    ("(assert (let ((x)) true))", Refused(BadForm, 16, 0)),
+    ("(assert (forall ((x)) (p x)))", Refused(BadForm, 19, 0)),
+    ("(define-fun e ((x)) U c)", Refused(BadForm, 17, 0)),
+    ("(assert (let (()) true))", Refused(BadForm, 15, 0)),
+    ("(assert (let (((f c))) true))", Refused(BadForm, 15, 0)),
+    ("(assert (let ((x c c)) true))", Refused(BadForm, 20, 0)),
+    ("(assert (let (((f c) c)) true))", Refused(BadForm, 16, 0)),
+];
+
+#[test]
+fn a_binding_that_lacks_a_part_is_refused_at_its_head(rt: HostRuntime) -> Result<(), Fail> {
+    let alloc = rt.alloc();
+    let mut session = Session::new(alloc, &Limits::standard());
+    run(&rt, alloc, &mut session, STANDING)?;
+    run(&rt, alloc, &mut session, BINDINGS)
+}
+
 #[test]
 fn a_refusal_has_its_place_and_its_name(rt: HostRuntime) -> Result<(), Fail> {
     let alloc = rt.alloc();

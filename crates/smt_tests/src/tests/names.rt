@@ -218,6 +218,19 @@ fn the_last_binding_of_a_name_wins(rt: HostRuntime) -> Result<(), Fail> {
 }
 
 #[test]
+fn a_name_stands_once_among_distinct_names(rt: HostRuntime) -> Result<(), Fail> {
+    let mut names = DistinctNames::new(rt.alloc());
+    assert!(rt; !names.contains(b"x".as_slice()));
+    names.push(b"x".as_slice())?;
+    if !names.contains(b"y".as_slice()) {
+        names.push(b"y".as_slice())?;
+    }
+    assert_eq!(rt; names.find(b"y".as_slice()), Some(1));
+    assert_eq!(rt; names.find(b"z".as_slice()), None);
+    Ok(())
+}
+
+#[test]
 fn values_tell_their_parts(rt: HostRuntime) {
     let term = Value::Term { row: 7, sort: 1 };
     assert_eq!(rt; (term.row(), term.sort(), term.complement()), (7, 1, None));

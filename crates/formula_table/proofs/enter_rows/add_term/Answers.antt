@@ -6,4 +6,4 @@ use Rattle.formula_table.proofs.enter_rows.add_term.Goals as goal
 pub add-requires-clause-terms : goal.add-requires-clause-terms
 add-requires-clause-terms g c =
     let rows = g.E.TermEntry.rows c.args.terms.now in
-    subst (λ (args : List ℕ). All (λ arg. arg < length rows) args) (sym (c.as_slice.ensures ∙ c.in_ok-args.ensures)) (All-map (λ arg. arg < length rows) (slice_index c.args.numbers.now) c.args.args.now c.requires.stand)
+    subst (λ (args : List ℕ). All (λ arg. arg < length rows) args) (sym (c.as_slice.ensures.value ∙ c.in_ok-args.ensures)) (All-map (λ arg. arg < length rows) (slice_index c.args.numbers.now) c.args.args.now c.requires.stand)

@@ -7,7 +7,7 @@ use Rattle.smt_terms.proofs.checks.check_names.Given as goal
 
 -- what is left to check is the whole
 abbrev pub invariant-loop-names : goal.invariant-loop-names
-invariant-loop-names l = (draft : Draft) → bindings_after l.names.items (here l.tree l.at) draft ≡ bindings_after [] (here l.tree l.i) draft
+invariant-loop-names l = (draft : Draft) → bindings_after l.names (here l.tree l.at) draft ≡ bindings_after [] (here l.tree l.i) draft
 
 abbrev pub decreases-loop-names : goal.decreases-loop-names
 decreases-loop-names l = weight l.tree (here l.tree l.at)

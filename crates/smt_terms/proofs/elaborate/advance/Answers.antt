@@ -1,4 +1,4 @@
-use Rattle.smt_terms.specs.declared.frame.Walked.TheVariants.{Universal}
+use Rattle.smt_terms.specs.declared.walked.Walked.TheVariants.{Universal}
 use Rattle.smt_terms.proofs.Walks.{advances_after, stands_so}
 use Rattle.smt_terms.proofs.elaborate.advance.Goals as goal
 

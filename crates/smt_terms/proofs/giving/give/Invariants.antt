@@ -1,7 +1,7 @@
 use Rattle.std.proofs.Common.{◌≡◌, ◌≤◌, length, reverse}
 use Rattle.formula_draft.specs.Draft.{Draft}
 use Rattle.smt_names.specs.Names.{State}
-use Rattle.smt_terms.specs.declared.frame.Inside.{Inside}
+use Rattle.smt_terms.specs.declared.inside.Inside.{Inside}
 use Rattle.smt_terms.specs.Machine.{given_to, work_of, base_of}
 use Rattle.smt_terms.proofs.giving.give.Given as goal
 

@@ -1,6 +1,6 @@
 use Rattle.std.proofs.Common.{refl, Ok, ◌∙◌}
-use Rattle.smt_terms.specs.declared.frame.Work.TheVariants.{Apply, Let, Pass}
-use Rattle.smt_terms.specs.declared.frame.Given.TheVariants.{At, Outer}
+use Rattle.smt_terms.specs.declared.work.Work.TheVariants.{Apply, Let, Pass}
+use Rattle.smt_terms.specs.declared.given.Given.TheVariants.{At, Outer}
 use Rattle.smt_terms.proofs.Machines.{puts_pass, puts_apply, puts_let, by_work}
 use Rattle.smt_terms.proofs.giving.put_in.Goals as goal
 

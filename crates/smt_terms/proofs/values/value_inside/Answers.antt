@@ -1,5 +1,5 @@
 use Rattle.std.proofs.Common.{◌∙◌}
-use Rattle.smt_terms.specs.declared.frame.Walked.TheVariants.{Whole}
+use Rattle.smt_terms.specs.declared.walked.Walked.TheVariants.{Whole}
 use Rattle.smt_terms.proofs.Openings.{refuses_same}
 use Rattle.smt_terms.proofs.Walks.{at_start, base_at_start, stands_so}
 use Rattle.smt_terms.proofs.values.value_inside.Goals as goal
