@@ -5,10 +5,10 @@ use Rattle.clap.specs.Simple.{App, Shape, built, is_simple, new_rule}
 use Rattle.clap.specs.Faults.{is_simple_and_free}
 use Rattle.clap.specs.declared.builder.action.ArgAction.TheVariants.{Set}
 use Rattle.clap.specs.declared.builder.value_parser.ValueParser.TheVariants.{String}
-use Rattle.em_words.specs.Texts.{Place, workers, rounds, command, count}
+use Rattle.em_words.specs.Texts.{Slot, workers, rounds, command, count}
 use Rattle.em_words.specs.ClapCommand.{command_line, command_shape}
 
-abbrev pub id_of : Place → Text
+abbrev pub id_of : Slot → Text
 id_of workers = codes "workers"
 id_of rounds = codes "rounds"
 id_of command = codes "command"
@@ -22,7 +22,7 @@ one_text id = record (new_rule id) {
   range = Some (record { start_inclusive = 1; end_inclusive = 1 });
 }
 
-abbrev pub rule_at : Place → Rule
+abbrev pub rule_at : Slot → Rule
 rule_at workers = record (one_text (codes "workers")) { long = Some (codes "workers") }
 rule_at rounds = record (one_text (codes "rounds")) { long = Some (codes "rounds") }
 rule_at command = record (one_text (codes "command")) { index = Some 1 }

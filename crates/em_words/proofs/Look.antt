@@ -10,7 +10,7 @@ use Rattle.std.specs.Str.{encode_utf8_all}
 use Rattle.std.proofs.lemmas.Bool.Decides.{eqb_tells}
 use Rattle.clap.specs.Lexer.{long_of, short_of, has_byte}
 use Rattle.em_words.specs.Number.{Text}
-use Rattle.em_words.specs.Texts.{Place, workers, rounds, option_named, joined_value, is_flag}
+use Rattle.em_words.specs.Texts.{Slot, workers, rounds, option_named, joined_value, is_flag}
 
 abbrev pub is_equals : ℕ → Bool
 is_equals b = b == 61
@@ -34,11 +34,11 @@ after_step b bs e =
     ∙ (ap (λ (k : ℕ). drop (k + 1) (b ∷ bs)) (one n) ∙ ap (λ (k : ℕ). drop k (b ∷ bs)) (one_more n))
 
 -- the option of a long name, and of a name with its hyphens
-abbrev pub long_named : Text → Option Place
+abbrev pub long_named : Text → Option Slot
 long_named name = if bytes_eq (codes "workers") name then Some workers
     else (if bytes_eq (codes "rounds") name then Some rounds else None)
 
-abbrev pub named_by : Text → Option Place
+abbrev pub named_by : Text → Option Slot
 named_by name = if bytes_eq (codes "--workers") name then Some workers
     else (if bytes_eq (codes "--rounds") name then Some rounds else None)
 

@@ -9,7 +9,7 @@ use Rattle.clap.specs.Walk.{Row, at_row, first_of, has_row, more_values, reading
 use Rattle.clap.specs.declared.builder.value_parser.Reading.{Reading}
 use Rattle.clap.specs.declared.parser.matches.ValueSource.TheVariants.{CommandLine}
 use Rattle.em_words.specs.Number.{Text}
-use Rattle.em_words.specs.Texts.{Place, Texts, workers, rounds, command, count, text_at, with_text}
+use Rattle.em_words.specs.Texts.{Slot, Texts, workers, rounds, command, count, text_at, with_text}
 use Rattle.em_words.specs.ClapCommand.{texts_of_rows}
 use Rattle.em_words.proofs.Built.{id_of, rule_at}
 
@@ -43,31 +43,31 @@ put_absent id how v rows h =
     ap (with_values id how CommandLine (v ∷ [])) (at_absent id (λ _. []) [] rows h ∙ append-nil rows)
     ∙ at_absent id (more_values CommandLine (v ∷ [])) (new_row id how v ∷ []) rows h
 
--- the row that a use of the place makes
-abbrev pub row_for : Place → Text → Row
+-- the row that a use of the slot makes
+abbrev pub row_for : Slot → Text → Row
 row_for p v = new_row (id_of p) (reading_by (rule_at p)) v
 
-used_absent : (p : Place) (v : Text) (rows : List Row) → has_row (id_of p) rows ≡ false → used (rule_at p) (v ∷ []) rows ≡ rows ++ row_for p v ∷ []
+used_absent : (p : Slot) (v : Text) (rows : List Row) → has_row (id_of p) rows ≡ false → used (rule_at p) (v ∷ []) rows ≡ rows ++ row_for p v ∷ []
 used_absent workers v rows h = put_absent (id_of workers) (reading_by (rule_at workers)) v rows h
 used_absent rounds v rows h = put_absent (id_of rounds) (reading_by (rule_at rounds)) v rows h
 used_absent command v rows h = put_absent (id_of command) (reading_by (rule_at command)) v rows h
 used_absent count v rows h = put_absent (id_of count) (reading_by (rule_at count)) v rows h
 
 -- the rows hold each text that is given, and no other
-abbrev pub values_at : Place → List Row → Option (List Text)
+abbrev pub values_at : Slot → List Row → Option (List Text)
 values_at p rows = option_map (λ (r : Row). r.values) (row_at (id_of p) rows)
 
-abbrev pub wanted : Place → Texts → Option (List Text)
+abbrev pub wanted : Slot → Texts → Option (List Text)
 wanted p t = option_map (λ (v : Text). v ∷ []) (text_at p t)
 
 pub record Holds (t : Texts) (rows : List Row) : Type 0 where
-  pub values : (p : Place) → values_at p rows ≡ wanted p t
+  pub values : (p : Slot) → values_at p rows ≡ wanted p t
 
 some_of_map : {X Y : Type 0} (f : X → Y) (o : Option X) → is_some (option_map f o) ≡ is_some o
 some_of_map f None = refl
 some_of_map f (Some x) = refl
 
-pub holds_has : (t : Texts) (rows : List Row) → Holds t rows → (p : Place) → has_row (id_of p) rows ≡ is_some (text_at p t)
+pub holds_has : (t : Texts) (rows : List Row) → Holds t rows → (p : Slot) → has_row (id_of p) rows ≡ is_some (text_at p t)
 holds_has t rows h p =
     has_found (id_of p) rows
     ∙ (sym (some_of_map (λ (r : Row). r.values) (row_at (id_of p) rows))
@@ -82,7 +82,7 @@ first_text (Some r) (Some v) e =
     let values : r.values ≡ v ∷ [] = cc in
     ap (λ (l : List Text). slice_get l 0) values
 
-holds_first : (t : Texts) (rows : List Row) → Holds t rows → (p : Place) → first_of (id_of p) rows ≡ text_at p t
+holds_first : (t : Texts) (rows : List Row) → Holds t rows → (p : Slot) → first_of (id_of p) rows ≡ text_at p t
 holds_first t rows h p = first_text (row_at (id_of p) rows) (text_at p t) (h.values p)
 
 four : (a b c d e f g h : Option Text) → a ≡ e → b ≡ f → c ≡ g → d ≡ h
@@ -111,15 +111,15 @@ added_same id r rows e h = find-append (λ (x : Row). bytes_eq x.id id) rows (r 
     ∙ (ap (λ (b : Bool). option_or (row_at id rows) (cond b (Some r) None)) e
     ∙ or_of_none (row_at id rows) r (sym (has_found id rows) ∙ h))
 
-values_other : (p q : Place) (v : Text) (t : Texts) (rows : List Row) → Holds t rows → bytes_eq (id_of p) (id_of q) ≡ false
+values_other : (p q : Slot) (v : Text) (t : Texts) (rows : List Row) → Holds t rows → bytes_eq (id_of p) (id_of q) ≡ false
     → values_at q (rows ++ row_for p v ∷ []) ≡ wanted q t
 values_other p q v t rows h e = ap (option_map (λ (r : Row). r.values)) (added_other (id_of q) (row_for p v) rows e) ∙ h.values q
 
-values_same : (p : Place) (v : Text) (rows : List Row) → bytes_eq (id_of p) (id_of p) ≡ true → has_row (id_of p) rows ≡ false
+values_same : (p : Slot) (v : Text) (rows : List Row) → bytes_eq (id_of p) (id_of p) ≡ true → has_row (id_of p) rows ≡ false
     → values_at p (rows ++ row_for p v ∷ []) ≡ Some (v ∷ [])
 values_same p v rows e h = ap (option_map (λ (r : Row). r.values)) (added_same (id_of p) (row_for p v) rows e h)
 
-values_added : (p q : Place) (v : Text) (t : Texts) (rows : List Row) → Holds t rows → has_row (id_of p) rows ≡ false
+values_added : (p q : Slot) (v : Text) (t : Texts) (rows : List Row) → Holds t rows → has_row (id_of p) rows ≡ false
     → values_at q (rows ++ row_for p v ∷ []) ≡ wanted q (with_text p v t)
 values_added workers workers v t rows h a = values_same workers v rows refl a
 values_added workers rounds v t rows h a = values_other workers rounds v t rows h refl
@@ -138,8 +138,8 @@ values_added count rounds v t rows h a = values_other count rounds v t rows h re
 values_added count command v t rows h a = values_other count command v t rows h refl
 values_added count count v t rows h a = values_same count v rows refl a
 
--- a use of a place that has no text yet
-pub holds_used : (p : Place) (v : Text) (t : Texts) (rows : List Row) → Holds t rows → has_row (id_of p) rows ≡ false
+-- a use of a slot that has no text yet
+pub holds_used : (p : Slot) (v : Text) (t : Texts) (rows : List Row) → Holds t rows → has_row (id_of p) rows ≡ false
     → Holds (with_text p v t) (used (rule_at p) (v ∷ []) rows)
 holds_used p v t rows h a = record {
   values = λ q. ap (values_at q) (used_absent p v rows a) ∙ values_added p q v t rows h a;

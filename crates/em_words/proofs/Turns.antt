@@ -8,7 +8,7 @@ use Rattle.clap.specs.Walk.{Held, Row, Rule, Waiting, Walk, arg_by_id, arg_by_in
 use Rattle.clap.specs.Walk.{idle, option, positional}
 use Rattle.clap.specs.declared.error.kind.ErrorKind.TheVariants as kind
 use Rattle.em_words.specs.Number.{Text}
-use Rattle.em_words.specs.Texts.{Place, workers, rounds, command, count}
+use Rattle.em_words.specs.Texts.{Slot, workers, rounds, command, count}
 use Rattle.em_words.proofs.Built.{id_of, rule_at, rules, shape}
 use Rattle.em_words.proofs.Look.{IsPlain, IsLong, IsShort, IsDashes, Look, long_named}
 
@@ -84,9 +84,9 @@ pub stops : (w : Walk) (word : Text) (rest : List Text) → IsFault (turn_fault 
 unfolding walk_fault
 stops w word rest f = first_fails _ _ (first_fails _ _ f)
 
--- ---- one use of a place
+-- ---- one use of a slot
 
-pub use_ok : (p : Place) (v : Text) (rows : List Row) → has_row (id_of p) rows ≡ false → use_fault false (rule_at p) (v ∷ []) rows ≡ []
+pub use_ok : (p : Slot) (v : Text) (rows : List Row) → has_row (id_of p) rows ≡ false → use_fault false (rule_at p) (v ∷ []) rows ≡ []
 use_ok workers v rows h = rw h refl
 use_ok rounds v rows h = rw h refl
 use_ok command v rows h = rw h refl
@@ -102,25 +102,25 @@ again_fails : (a : Rule) (vs : List Text) (rows : List Row) → has_row a.id row
     → IsFault (or_else (range_kinds 1 1 (length vs)) (set_fault false a (values_or_missing a vs) rows))
 again_fails a vs rows h = second_fails (range_kinds 1 1 (length vs)) (set_fault false a (values_or_missing a vs) rows) (set_fails a (values_or_missing a vs) rows h)
 
-pub use_again : (p : Place) (vs : List Text) (rows : List Row) → has_row (id_of p) rows ≡ true → IsFault (use_fault false (rule_at p) vs rows)
+pub use_again : (p : Slot) (vs : List Text) (rows : List Row) → has_row (id_of p) rows ≡ true → IsFault (use_fault false (rule_at p) vs rows)
 use_again workers vs rows h = again_fails (rule_at workers) vs rows h
 use_again rounds vs rows h = again_fails (rule_at rounds) vs rows h
 use_again command vs rows h = again_fails (rule_at command) vs rows h
 use_again count vs rows h = again_fails (rule_at count) vs rows h
 
-pub use_empty : (p : Place) (rows : List Row) → IsFault (use_fault false (rule_at p) [] rows)
+pub use_empty : (p : Slot) (rows : List Row) → IsFault (use_fault false (rule_at p) [] rows)
 use_empty workers rows e = cc
 use_empty rounds rows e = cc
 use_empty command rows e = cc
 use_empty count rows e = cc
 
-pub settle_at : (p : Place) (vs : List Text) (rows : List Row) → settle_fault rules false (held rows (Some (id_of p, vs))) ≡ use_fault false (rule_at p) vs rows
+pub settle_at : (p : Slot) (vs : List Text) (rows : List Row) → settle_fault rules false (held rows (Some (id_of p, vs))) ≡ use_fault false (rule_at p) vs rows
 settle_at workers vs rows = refl
 settle_at rounds vs rows = refl
 settle_at command vs rows = refl
 settle_at count vs rows = refl
 
-pub settled_at : (p : Place) (vs : List Text) (rows : List Row) → settled_rows rules (Some (id_of p, vs)) rows ≡ used (rule_at p) vs rows
+pub settled_at : (p : Slot) (vs : List Text) (rows : List Row) → settled_rows rules (Some (id_of p, vs)) rows ≡ used (rule_at p) vs rows
 settled_at workers vs rows = refl
 settled_at rounds vs rows = refl
 settled_at command vs rows = refl
@@ -138,17 +138,17 @@ by_long name = go (bytes_eq (codes "workers") name) (bytes_eq (codes "rounds") n
     go false false = refl
 
 -- what a word that goes to a positional is answered
-abbrev pub place_fault : ℕ → Held → Kinds
-place_fault position h = option_map_or (λ a. positional_fault rules false a h) (arg_by_index rules position) (kind.UnknownArgument ∷ [])
+abbrev pub slot_fault : ℕ → Held → Kinds
+slot_fault position h = option_map_or (λ a. positional_fault rules false a h) (arg_by_index rules position) (kind.UnknownArgument ∷ [])
 
-pub positional_settles : (p : Place) (h : Held) → positional_fault rules false (rule_at p) h ≡ settle_fault rules false h
+pub positional_settles : (p : Slot) (h : Held) → positional_fault rules false (rule_at p) h ≡ settle_fault rules false h
 positional_settles workers h = ap (λ (b : Bool). if b then [] else settle_fault rules false h) (and_false (is_pending (rule_at workers) h.pending))
 positional_settles rounds h = ap (λ (b : Bool). if b then [] else settle_fault rules false h) (and_false (is_pending (rule_at rounds) h.pending))
 positional_settles command h = ap (λ (b : Bool). if b then [] else settle_fault rules false h) (and_false (is_pending (rule_at command) h.pending))
 positional_settles count h = ap (λ (b : Bool). if b then [] else settle_fault rules false h) (and_false (is_pending (rule_at count) h.pending))
 
-place_fails : (position : ℕ) (h : Held) → IsFault (settle_fault rules false h) → IsFault (place_fault position h)
-place_fails position h f = go (1 == position) (2 == position)
+slot_fails : (position : ℕ) (h : Held) → IsFault (settle_fault rules false h) → IsFault (slot_fault position h)
+slot_fails position h f = go (1 == position) (2 == position)
   where
     go : (a b : Bool) → IsFault (option_map_or (λ r. positional_fault rules false r h)
         (cond a (Some (rule_at command)) (cond b (Some (rule_at count)) None)) (kind.UnknownArgument ∷ []))
@@ -179,7 +179,7 @@ long_turn rows pending waiting position word l f =
     rw (none_met waiting word, l.dashes, l.long, by_long l.name) f in
     first_fails _ _ g
 
-pub long_fails : (o : Option Place) (value : Option Text) (h : Held) → IsFault (settle_fault rules false h) → IsFault (long_fault rules false (option_map rule_at o) value h)
+pub long_fails : (o : Option Slot) (value : Option Text) (h : Held) → IsFault (settle_fault rules false h) → IsFault (long_fault rules false (option_map rule_at o) value h)
 long_fails None value h f = λ e. cc
 long_fails (Some workers) None h f = f
 long_fails (Some workers) (Some v) h f = first_fails _ _ f
@@ -192,11 +192,11 @@ long_fails (Some count) (Some v) h f = first_fails _ _ f
 
 -- a plain word before `--`, where nothing waits
 pub plain_fault : (rows : List Row) (pending : Option (Text × List Text)) (position : ℕ) (word : Text) → IsPlain word
-    → turn_fault shape [] (stand rows pending idle position false) word ≡ place_fault position (held rows pending)
+    → turn_fault shape [] (stand rows pending idle position false) word ≡ slot_fault position (held rows pending)
 plain_fault rows pending position word s = rw (s.dashes, s.long, s.short) refl
 
 plain_fault_positional : (rows : List Row) (pending : Option (Text × List Text)) (position : ℕ) (word : Text) → IsPlain word
-    → turn_fault shape [] (stand rows pending positional position false) word ≡ place_fault position (held rows pending)
+    → turn_fault shape [] (stand rows pending positional position false) word ≡ slot_fault position (held rows pending)
 plain_fault_positional rows pending position word s = rw (s.dashes, s.long, s.short) refl
 
 pub plain_next : (rows : List Row) (pending : Option (Text × List Text)) (position : ℕ) (word : Text) → IsPlain word
@@ -208,41 +208,41 @@ plain_next rows pending position word s = rw (s.dashes, s.long, s.short) refl
 -- ---- a walk that is bound to fail
 
 -- a second use, or an option that `--` left without its value
-abbrev pub IsBad : Place → List Text → List Row → Bool → Type 0
+abbrev pub IsBad : Slot → List Text → List Row → Bool → Type 0
 IsBad p vs rows closed = (has_row (id_of p) rows ≡ true) ⊎ ((vs ≡ []) × (closed ≡ true))
 
-bad_settles : (p : Place) (vs : List Text) (rows : List Row) (closed : Bool) → IsBad p vs rows closed
+bad_settles : (p : Slot) (vs : List Text) (rows : List Row) (closed : Bool) → IsBad p vs rows closed
     → IsFault (settle_fault rules false (held rows (Some (id_of p, vs))))
 bad_settles p vs rows closed (inl h) = fails_as _ _ (settle_at p vs rows) (use_again p vs rows h)
 bad_settles p vs rows closed (inr h) = fails_as _ _ (settle_at p vs rows) (rw h.0 (use_empty p rows))
 
 -- a walk that fails in the end, whatever words come
 pub record IsDoomed (w : Walk) : Type 0 where
-  pub place : Place
+  pub slot : Slot
   pub values : List Text
   pub rows : List Row
   pub waiting : Waiting
   pub position : ℕ
   pub closed : Bool
-  pub is : w ≡ stand rows (Some (id_of place, values)) waiting position closed
-  pub bad : IsBad place values rows closed
+  pub is : w ≡ stand rows (Some (id_of slot, values)) waiting position closed
+  pub bad : IsBad slot values rows closed
 
 -- a word at such a walk: it is refused, or the walk stays so
 abbrev pub Loses : Walk → Text → Type 0
 Loses w word = IsFault (turn_fault shape [] w word) ⊎ ((v : Walk) × Goes w word v × IsDoomed v)
 
 -- before `--` it was a second use
-was_second : (p : Place) (vs : List Text) (rows : List Row) → IsBad p vs rows false → has_row (id_of p) rows ≡ true
+was_second : (p : Slot) (vs : List Text) (rows : List Row) → IsBad p vs rows false → has_row (id_of p) rows ≡ true
 was_second p vs rows (inl h) = h
 was_second p vs rows (inr h) = cc
 
-module _ (p : Place) (vs : List Text) (rows : List Row) (position : ℕ) where
+module _ (p : Slot) (vs : List Text) (rows : List Row) (position : ℕ) where
   abbrev lost : Waiting → Bool → Walk
   lost waiting closed = stand rows (Some (id_of p, vs)) waiting position closed
 
   lost_closed : (waiting : Waiting) (word : Text) → IsBad p vs rows true → Loses (lost waiting true) word
   lost_closed waiting word bad =
-      inl (place_fails position (held rows (Some (id_of p, vs))) (bad_settles p vs rows true bad))
+      inl (slot_fails position (held rows (Some (id_of p, vs))) (bad_settles p vs rows true bad))
 
   lost_long : (waiting : Waiting) (word : Text) → IsBad p vs rows false → IsLong word → Loses (lost waiting false) word
   lost_long waiting word bad l =
@@ -258,7 +258,7 @@ module _ (p : Place) (vs : List Text) (rows : List Row) (position : ℕ) where
       next = rw (none_met waiting word, d.dashes) refl;
     },
     record {
-      place = p;
+      slot = p;
       values = vs;
       rows = rows;
       waiting = waiting;
@@ -284,7 +284,7 @@ module _ (p : Place) (vs : List Text) (rows : List Row) (position : ℕ) where
           next = rw (s.dashes, s.long, s.short, e) refl;
         },
         record {
-          place = p;
+          slot = p;
           values = vs;
           rows = rows;
           waiting = option id;
@@ -301,7 +301,7 @@ module _ (p : Place) (vs : List Text) (rows : List Row) (position : ℕ) where
           next = rw (s.dashes, s.long, s.short, e) refl;
         },
         record {
-          place = p;
+          slot = p;
           values = vs ++ word ∷ [];
           rows = rows;
           waiting = (option_word (Some a) id word (held rows (Some (id_of p, vs)))).1;
@@ -316,10 +316,10 @@ module _ (p : Place) (vs : List Text) (rows : List Row) (position : ℕ) where
   lost_plain (option id) word bad s = lost_value id word bad s
   lost_plain idle word bad s =
       inl (fails_as _ _ (plain_fault rows (Some (id_of p, vs)) position word s)
-      (place_fails position (held rows (Some (id_of p, vs))) (bad_settles p vs rows false bad)))
+      (slot_fails position (held rows (Some (id_of p, vs))) (bad_settles p vs rows false bad)))
   lost_plain positional word bad s =
       inl (fails_as _ _ (plain_fault_positional rows (Some (id_of p, vs)) position word s)
-      (place_fails position (held rows (Some (id_of p, vs))) (bad_settles p vs rows false bad)))
+      (slot_fails position (held rows (Some (id_of p, vs))) (bad_settles p vs rows false bad)))
 
   lost_turn : (waiting : Waiting) (closed : Bool) (word : Text) → IsBad p vs rows closed → Look word → Loses (lost waiting closed) word
   lost_turn waiting true word bad l = lost_closed waiting word bad
@@ -332,8 +332,8 @@ module _ (p : Place) (vs : List Text) (rows : List Row) (position : ℕ) where
 pub doomed_turn : (w : Walk) (word : Text) → IsDoomed w → Look word → Loses w word
 doomed_turn w word d l =
     let P : Walk → Type 0 = λ x. Loses x word in
-    rw d.is (lost_turn d.place d.values d.rows d.position d.waiting d.closed word d.bad l)
+    rw d.is (lost_turn d.slot d.values d.rows d.position d.waiting d.closed word d.bad l)
 
 pub doomed_end : (w : Walk) → IsDoomed w → IsFault (fault_from w [])
 unfolding walk_fault
-doomed_end w d = rw d.is (bad_settles d.place d.values d.rows d.closed d.bad)
+doomed_end w d = rw d.is (bad_settles d.slot d.values d.rows d.closed d.bad)

@@ -11,15 +11,15 @@ use Rattle.clap.specs.Simple.{entered, matches_of}
 use Rattle.em_words.specs.ClapCommand.{command_line}
 use Rattle.clap.specs.Walk.{idle, option}
 use Rattle.em_words.specs.Number.{Text}
-use Rattle.em_words.specs.Texts.{Place, Texts, Reading, workers, rounds, command, count, text_at, with_text, give_next, read_option, read_word, read_all, ended, nothing, texts_in}
+use Rattle.em_words.specs.Texts.{Slot, Texts, Reading, workers, rounds, command, count, text_at, with_text, give_next, read_option, read_word, read_all, ended, nothing, texts_in}
 use Rattle.em_words.proofs.Built.{built_line, id_of, rule_at, rules, shape}
 use Rattle.em_words.proofs.Look.{IsPlain, IsLong, IsDashes, Look, long_named, look}
 use Rattle.em_words.proofs.Rows.{Holds, holds_has, holds_used, values_at, wanted}
-use Rattle.em_words.proofs.Turns.{IsFault, Goes, IsDoomed, Loses, and_false, by_long, doomed_end, doomed_turn, end_fault, fails_as, fault_from, goes_fault, goes_rows, held, long_fails, long_turn, or_false, place_fault, plain_fault, plain_next, positional_settles, rows_from, second_fails, settle_at, settled_at, short_fails, stand, stops, use_again, use_empty, use_ok}
+use Rattle.em_words.proofs.Turns.{IsFault, Goes, IsDoomed, Loses, and_false, by_long, doomed_end, doomed_turn, end_fault, fails_as, fault_from, goes_fault, goes_rows, held, long_fails, long_turn, or_false, slot_fault, plain_fault, plain_next, positional_settles, rows_from, second_fails, settle_at, settled_at, short_fails, stand, stops, use_again, use_empty, use_ok}
 
 -- ---- how the walk stands where this crate's reading does
 
-abbrev pub is_option : Place → Bool
+abbrev pub is_option : Slot → Bool
 is_option workers = true
 is_option rounds = true
 is_option _ = false
@@ -30,7 +30,7 @@ Spot t n = ((n ≡ 1) × (t.command ≡ None) × (t.count ≡ None))
     ⊎ (((n ≡ 2) × (is_some t.command ≡ true) × (t.count ≡ None))
     ⊎ ((n ≡ 3) × (is_some t.command ≡ true) × (is_some t.count ≡ true)))
 
-spot_kept : (p : Place) (v : Text) (t : Texts) (n : ℕ) → is_option p ≡ true → Spot t n → Spot (with_text p v t) n
+spot_kept : (p : Slot) (v : Text) (t : Texts) (n : ℕ) → is_option p ≡ true → Spot t n → Spot (with_text p v t) n
 spot_kept workers v t n o s = s
 spot_kept rounds v t n o s = s
 spot_kept command v t n o s = cc
@@ -47,7 +47,7 @@ pub record Idle (t : Texts) (closed : Bool) (w : Walk) : Type 0 where
   pub spot : Spot t position
 
 -- an option waits for its value
-pub record Waits (t : Texts) (p : Place) (w : Walk) : Type 0 where
+pub record Waits (t : Texts) (p : Slot) (w : Walk) : Type 0 where
   pub rows : List Row
   pub position : ℕ
   pub is : w ≡ stand rows (Some (id_of p, [])) (option (id_of p)) position false
@@ -56,7 +56,7 @@ pub record Waits (t : Texts) (p : Place) (w : Walk) : Type 0 where
   pub option : is_option p ≡ true
   pub spot : Spot t position
 
-abbrev pub StandsAt : Option Place → Texts → Bool → Walk → Type 0
+abbrev pub StandsAt : Option Slot → Texts → Bool → Walk → Type 0
 StandsAt None t closed w = Idle t closed w
 StandsAt (Some p) t closed w = Waits t p w × (closed ≡ false)
 
@@ -67,14 +67,14 @@ Stands s w = StandsAt s.waits s.texts s.is_closed w
 abbrev pub Turn : Walk → Text → Option Reading → Type 0
 Turn w word o = MatchOption o (Loses w word) (λ s. (v : Walk) × Goes w word v × Stands s v)
 
-abbrev pub reading : Texts → Option Place → Bool → Reading
+abbrev pub reading : Texts → Option Slot → Bool → Reading
 reading t waits closed = record { texts = t; waits = waits; is_closed = closed }
 
-absent : (p : Place) (t : Texts) (rows : List Row) → Holds t rows → is_some (text_at p t) ≡ false → has_row (id_of p) rows ≡ false
+absent : (p : Slot) (t : Texts) (rows : List Row) → Holds t rows → is_some (text_at p t) ≡ false → has_row (id_of p) rows ≡ false
 absent p t rows h free = holds_has t rows h p ∙ free
 
--- a place whose one value is pending
-filled : (p : Place) (v : Text) (t : Texts) (closed : Bool) (rows : List Row) (position : ℕ) → Holds t rows → is_some (text_at p t) ≡ false
+-- a slot whose one value is pending
+filled : (p : Slot) (v : Text) (t : Texts) (closed : Bool) (rows : List Row) (position : ℕ) → Holds t rows → is_some (text_at p t) ≡ false
     → Spot (with_text p v t) position → Idle (with_text p v t) closed (stand rows (Some (id_of p, v ∷ [])) idle position closed)
 filled p v t closed rows position h free spot = record {
   rows = rows;
@@ -86,8 +86,8 @@ filled p v t closed rows position h free spot = record {
   spot = spot;
 }
 
--- a place that was used
-used_up : (p : Place) (v : Text) (t : Texts) (rows : List Row) (position : ℕ) → Holds t rows → is_some (text_at p t) ≡ false
+-- a slot that was used
+used_up : (p : Slot) (v : Text) (t : Texts) (rows : List Row) (position : ℕ) → Holds t rows → is_some (text_at p t) ≡ false
     → Spot (with_text p v t) position → Idle (with_text p v t) false (stand (used (rule_at p) (v ∷ []) rows) None idle position false)
 used_up p v t rows position h free spot = record {
   rows = used (rule_at p) (v ∷ []) rows;
@@ -102,23 +102,23 @@ used_up p v t rows position h free spot = record {
 -- ---- an option waits for its value
 
 module _ (rows : List Row) (position : ℕ) (word : Text) where
-  abbrev waiting_at : Place → Walk
+  abbrev waiting_at : Slot → Walk
   waiting_at p = stand rows (Some (id_of p, [])) (option (id_of p)) position false
 
-  value_goes : (p : Place) → IsPlain word → Goes (waiting_at p) word (stand rows (Some (id_of p, word ∷ [])) idle position false)
+  value_goes : (p : Slot) → IsPlain word → Goes (waiting_at p) word (stand rows (Some (id_of p, word ∷ [])) idle position false)
   unfolding walked
   value_goes workers s = record { fault = rw (s.dashes, s.long, s.short) refl; next = rw (s.dashes, s.long, s.short) refl }
   value_goes rounds s = record { fault = rw (s.dashes, s.long, s.short) refl; next = rw (s.dashes, s.long, s.short) refl }
   value_goes command s = record { fault = rw (s.dashes, s.long, s.short) refl; next = rw (s.dashes, s.long, s.short) refl }
   value_goes count s = record { fault = rw (s.dashes, s.long, s.short) refl; next = rw (s.dashes, s.long, s.short) refl }
 
-  dashes_left : (p : Place) → IsDashes word → Loses (waiting_at p) word
+  dashes_left : (p : Slot) → IsDashes word → Loses (waiting_at p) word
   unfolding walked
   dashes_left p d = inr (
     stand rows (Some (id_of p, [])) (option (id_of p)) position true,
     record { fault = rw d.dashes refl; next = rw d.dashes refl },
     record {
-      place = p;
+      slot = p;
       values = [];
       rows = rows;
       waiting = option (id_of p);
@@ -129,7 +129,7 @@ module _ (rows : List Row) (position : ℕ) (word : Text) where
     },
   )
 
-  wait_turn : (p : Place) (t : Texts) → Holds t rows → is_some (text_at p t) ≡ false → is_option p ≡ true → Spot t position → Look word
+  wait_turn : (p : Slot) (t : Texts) → Holds t rows → is_some (text_at p t) ≡ false → is_option p ≡ true → Spot t position → Look word
       → Turn (waiting_at p) word (read_word (Some p) word (reading t (Some p) false))
   wait_turn p t h free o spot (inl s) = rw (s.flag, free)
       (stand rows (Some (id_of p, word ∷ [])) idle position false, value_goes p s, filled p word t false rows position h free (spot_kept p word t position o spot))
@@ -156,12 +156,12 @@ module _ (rows : List Row) (pending : Option (Text × List Text)) (word : Text) 
   to_count = rw (and_false (is_pending (rule_at count) pending), or_false closed) refl
 
   -- the word goes to the position
-  abbrev Places : ℕ → Type 0
-  Places position = (turn_fault shape [] (idle_at position) word ≡ place_fault position (held rows pending))
+  abbrev Slots : ℕ → Type 0
+  Slots position = (turn_fault shape [] (idle_at position) word ≡ slot_fault position (held rows pending))
       × (walked rules [] (idle_at position) word ≡ to_positional rules (arg_by_index rules position) word (idle_at position) (held rows pending))
 
   module _ (t : Texts) (settles : settle_fault rules false (held rows pending) ≡ []) (holds : Holds t (settled_rows rules pending rows)) where
-    next_first : Places 1 → t.command ≡ None → t.count ≡ None → Turn (idle_at 1) word (give_next word (reading t None closed))
+    next_first : Slots 1 → t.command ≡ None → t.count ≡ None → Turn (idle_at 1) word (give_next word (reading t None closed))
     next_first g a b =
         let free : is_some (text_at command t) ≡ false = rw a refl in
         rw (a) (
@@ -170,7 +170,7 @@ module _ (rows : List Row) (pending : Option (Text × List Text)) (word : Text) 
           filled command word t closed (settled_rows rules pending rows) 2 holds free (inr (inl (refl, refl, b))),
         )
 
-    next_second : Places 2 → is_some t.command ≡ true → t.count ≡ None → Turn (idle_at 2) word (give_next word (reading t None closed))
+    next_second : Slots 2 → is_some t.command ≡ true → t.count ≡ None → Turn (idle_at 2) word (give_next word (reading t None closed))
     next_second g a b =
         let free : is_some (text_at count t) ≡ false = rw b refl in
         rw (a, b) (
@@ -179,26 +179,26 @@ module _ (rows : List Row) (pending : Option (Text × List Text)) (word : Text) 
           filled count word t closed (settled_rows rules pending rows) 3 holds free (inr (inr (refl, a, refl))),
         )
 
-    next_third : Places 3 → is_some t.command ≡ true → is_some t.count ≡ true → Turn (idle_at 3) word (give_next word (reading t None closed))
+    next_third : Slots 3 → is_some t.command ≡ true → is_some t.count ≡ true → Turn (idle_at 3) word (give_next word (reading t None closed))
     next_third g a b = rw (a, b) (inl (fails_as _ _ g.0 (λ e. cc)))
 
-    next_turn : (position : ℕ) → Spot t position → Places position → Turn (idle_at position) word (give_next word (reading t None closed))
+    next_turn : (position : ℕ) → Spot t position → Slots position → Turn (idle_at position) word (give_next word (reading t None closed))
     next_turn position (inl s) g =
-        let h : Places 1 = rw s.0 at g in
+        let h : Slots 1 = rw s.0 at g in
         rw s.0 (next_first h s.1 s.2)
     next_turn position (inr (inl s)) g =
-        let h : Places 2 = rw s.0 at g in
+        let h : Slots 2 = rw s.0 at g in
         rw s.0 (next_second h s.1 s.2)
     next_turn position (inr (inr s)) g =
-        let h : Places 3 = rw s.0 at g in
+        let h : Slots 3 = rw s.0 at g in
         rw s.0 (next_third h s.1 s.2)
 
 -- ---- an option
 
-named_option : (name : Text) (p : Place) → long_named name ≡ Some p → is_option p ≡ true
+named_option : (name : Text) (p : Slot) → long_named name ≡ Some p → is_option p ≡ true
 named_option name p e = go (bytes_eq (codes "workers") name) (bytes_eq (codes "rounds") name) p e
   where
-    go : (a b : Bool) (q : Place) → cond a (Some workers) (cond b (Some rounds) None) ≡ Some q → is_option q ≡ true
+    go : (a b : Bool) (q : Slot) → cond a (Some workers) (cond b (Some rounds) None) ≡ Some q → is_option q ≡ true
     go a b workers e = refl
     go a b rounds e = refl
     go true b command e = cc
@@ -215,7 +215,7 @@ module _ (rows : List Row) (pending : Option (Text × List Text)) (position : �
   abbrev after : List Row
   after = settled_rows rules pending rows
 
-  waits_goes : (p : Place) → long_named l.name ≡ Some p → l.value ≡ None → settle_fault rules false (held rows pending) ≡ []
+  waits_goes : (p : Slot) → long_named l.name ≡ Some p → l.value ≡ None → settle_fault rules false (held rows pending) ≡ []
       → Goes open_at word (stand after (Some (id_of p, [])) (option (id_of p)) position false)
   unfolding walked
   waits_goes workers e v s = record {
@@ -235,11 +235,11 @@ module _ (rows : List Row) (pending : Option (Text × List Text)) (position : �
     next = rw (l.dashes, l.long, by_long l.name, e, v) refl;
   }
 
-  used_fault : (p : Place) (v : Text) → settle_fault rules false (held rows pending) ≡ [] → has_row (id_of p) after ≡ false
+  used_fault : (p : Slot) (v : Text) → settle_fault rules false (held rows pending) ≡ [] → has_row (id_of p) after ≡ false
       → or_else (settle_fault rules false (held rows pending)) (use_fault false (rule_at p) (v ∷ []) after) ≡ []
   used_fault p v s a = ap₂ or_else s (use_ok p v after a)
 
-  joined_goes : (p : Place) (v : Text) → long_named l.name ≡ Some p → l.value ≡ Some v → settle_fault rules false (held rows pending) ≡ []
+  joined_goes : (p : Slot) (v : Text) → long_named l.name ≡ Some p → l.value ≡ Some v → settle_fault rules false (held rows pending) ≡ []
       → has_row (id_of p) after ≡ false → Goes open_at word (stand (used (rule_at p) (v ∷ []) after) None idle position false)
   unfolding walked
   joined_goes workers v e j s a = record {
@@ -259,7 +259,7 @@ module _ (rows : List Row) (pending : Option (Text × List Text)) (position : �
     next = rw (l.dashes, l.long, by_long l.name, e, j) refl;
   }
 
-  again_fault : (p : Place) (v : Text) → has_row (id_of p) after ≡ true
+  again_fault : (p : Slot) (v : Text) → has_row (id_of p) after ≡ true
       → IsFault (long_fault rules false (option_map rule_at (Some p)) (Some v) (held rows pending))
   again_fault workers v a = second_fails (settle_fault rules false (held rows pending)) (use_fault false (rule_at workers) (v ∷ []) after) (use_again workers (v ∷ []) after a)
   again_fault rounds v a = second_fails (settle_fault rules false (held rows pending)) (use_fault false (rule_at rounds) (v ∷ []) after) (use_again rounds (v ∷ []) after a)
@@ -267,13 +267,13 @@ module _ (rows : List Row) (pending : Option (Text × List Text)) (position : �
   again_fault count v a = second_fails (settle_fault rules false (held rows pending)) (use_fault false (rule_at count) (v ∷ []) after) (use_again count (v ∷ []) after a)
 
   module _ (t : Texts) (settles : settle_fault rules false (held rows pending) ≡ []) (holds : Holds t after) (spot : Spot t position) where
-    wait_for_turn : (p : Place) → long_named l.name ≡ Some p → l.value ≡ None → (b : Bool) → is_some (text_at p t) ≡ b
+    wait_for_turn : (p : Slot) → long_named l.name ≡ Some p → l.value ≡ None → (b : Bool) → is_some (text_at p t) ≡ b
         → Turn open_at word (cond b None (Some (reading t (Some p) false)))
     wait_for_turn p e v true g = inr (
       stand after (Some (id_of p, [])) (option (id_of p)) position false,
       waits_goes p e v settles,
       record {
-        place = p;
+        slot = p;
         values = [];
         rows = after;
         waiting = option (id_of p);
@@ -300,7 +300,7 @@ module _ (rows : List Row) (pending : Option (Text × List Text)) (position : �
       ),
     )
 
-    give_turn : (p : Place) (v : Text) → long_named l.name ≡ Some p → l.value ≡ Some v → (b : Bool) → is_some (text_at p t) ≡ b
+    give_turn : (p : Slot) (v : Text) → long_named l.name ≡ Some p → l.value ≡ Some v → (b : Bool) → is_some (text_at p t) ≡ b
         → Turn open_at word (cond b None (Some (reading (with_text p v t) None false)))
     give_turn p v e j true g =
         let f : IsFault (long_fault rules false (option_map rule_at (long_named l.name)) l.value (held rows pending)) =
@@ -312,7 +312,7 @@ module _ (rows : List Row) (pending : Option (Text × List Text)) (position : �
       used_up p v t after position holds g (spot_kept p v t position (named_option l.name p e) spot),
     )
 
-    option_turn : (o : Option Place) → long_named l.name ≡ o → (x : Option Text) → l.value ≡ x → Turn open_at word (read_option o word (reading t None false))
+    option_turn : (o : Option Slot) → long_named l.name ≡ o → (x : Option Text) → l.value ≡ x → Turn open_at word (read_option o word (reading t None false))
     option_turn None e x v =
         let f : IsFault (long_fault rules false (option_map rule_at (long_named l.name)) l.value (held rows pending)) =
         rw e (λ k. cc) in
@@ -320,7 +320,7 @@ module _ (rows : List Row) (pending : Option (Text × List Text)) (position : �
     option_turn (Some p) e None v = rw (l.joined, v) (wait_for_turn p e v (is_some (text_at p t)) refl)
     option_turn (Some p) e (Some x) v = rw (l.joined, v) (give_turn p x e v (is_some (text_at p t)) refl)
 
--- ---- a word at any place
+-- ---- a word at any slot
 
 turn_as : (w : Walk) (word : Text) (a b : Option Reading) → a ≡ b → Turn w word b → Turn w word a
 turn_as w word a b e t = subst (λ (o : Option Reading). Turn w word o) (sym e) t
@@ -358,7 +358,7 @@ idle_turn t false rows pending position e h spot word (inr (inr (inr d))) =
       },
     )
 
-turn_at : (o : Option Place) (t : Texts) (closed : Bool) (w : Walk) (word : Text) → StandsAt o t closed w → Look word
+turn_at : (o : Option Slot) (t : Texts) (closed : Bool) (w : Walk) (word : Text) → StandsAt o t closed w → Look word
     → Turn w word (read_word o word (reading t o closed))
 turn_at None t closed w word i l = rw i.is (idle_turn t closed i.rows i.pending i.position i.settles i.holds i.spot word l)
 turn_at (Some p) t closed w word i l = rw (i.1, i.0.is)
@@ -388,7 +388,7 @@ doomed (word ∷ rest) w u d =
 abbrev pub Agrees : Option Texts → Kinds → List Row → Type 0
 Agrees o fault rows = MatchOption o (IsFault fault) (λ t. (fault ≡ []) × Holds t rows)
 
-ends_at : (o : Option Place) (t : Texts) (closed : Bool) (w : Walk) → StandsAt o t closed w
+ends_at : (o : Option Slot) (t : Texts) (closed : Bool) (w : Walk) → StandsAt o t closed w
     → Agrees (ended (reading t o closed)) (fault_from w []) (rows_from w [])
 unfolding walk_fault
 ends_at None t closed w i = rw i.is (i.settles, i.holds)
@@ -418,19 +418,19 @@ same_both : (b : Bool) (rows : List Row) → cond b rows rows ≡ rows
 same_both true rows = refl
 same_both false rows = refl
 
-keeps : (p : Place) (rows : List Row) → with_default rows (rule_at p) ≡ rows
+keeps : (p : Slot) (rows : List Row) → with_default rows (rule_at p) ≡ rows
 keeps workers rows = same_both (has_row (id_of workers) rows) rows
 keeps rounds rows = same_both (has_row (id_of rounds) rows) rows
 keeps command rows = same_both (has_row (id_of command) rows) rows
 keeps count rows = same_both (has_row (id_of count) rows) rows
 
-no_default : (p : Place) (rows : List Row) → default_fault rows (rule_at p) ≡ []
+no_default : (p : Slot) (rows : List Row) → default_fault rows (rule_at p) ≡ []
 no_default workers rows = rw (or_true (has_row (id_of workers) rows)) refl
 no_default rounds rows = rw (or_true (has_row (id_of rounds) rows)) refl
 no_default command rows = rw (or_true (has_row (id_of command) rows)) refl
 no_default count rows = rw (or_true (has_row (id_of count) rows)) refl
 
-skip : (p : Place) (rows : List Row) (rest : List Rule) → defaults_fault rows (rule_at p ∷ rest) ≡ defaults_fault rows rest
+skip : (p : Slot) (rows : List Row) (rest : List Rule) → defaults_fault rows (rule_at p ∷ rest) ≡ defaults_fault rows rest
 unfolding defaults_fault
 skip p rows rest = ap₂ or_else (no_default p rows) (ap (λ (r : List Row). defaults_fault r rest) (keeps p rows))
 
@@ -464,7 +464,7 @@ starts = record {
   spot = inl (refl, refl, refl);
 }
   where
-    none_yet : (p : Place) → values_at p [] ≡ wanted p nothing.texts
+    none_yet : (p : Slot) → values_at p [] ≡ wanted p nothing.texts
     none_yet workers = refl
     none_yet rounds = refl
     none_yet command = refl

@@ -1,5 +1,5 @@
 -- Which word stands for what, before any is looked at as a number or a command. Behind `--` a word
--- with a hyphen is given to its place, and is no number and no command there.
+-- with a hyphen is given to its slot, and is no number and no command there.
 use Rattle.std.specs.Prelude.{Bool, true, false, List, [], ◌∷◌, ◌==◌, Option, Some, None}
 use Rattle.std.specs.Prelude.{is_some, if◌then◌else◌, codes, option_and_then, option_map}
 use Rattle.std.specs.List.{list_any, before_first, after_first}
@@ -8,27 +8,27 @@ use Rattle.std.specs.Str.{bytes_eq}
 use Rattle.em_words.specs.Number.{Text}
 use Rattle.em_words.specs.declared.given.Given.{Given}
 
--- what a text is given for
-pub data Place : Type 0 where
-  workers : Place
-  rounds : Place
-  command : Place
-  count : Place
+-- the slots of the command line: what a text is given for
+pub data Slot : Type 0 where
+  workers : Slot
+  rounds : Slot
+  command : Slot
+  count : Slot
 
--- the text that each place is given, if it is given one
+-- the text that each slot is given, if it is given one
 pub record Texts : Type 0 where
   pub workers : Option Text
   pub rounds : Option Text
   pub command : Option Text
   pub count : Option Text
 
-abbrev pub text_at : Place → Texts → Option Text
+abbrev pub text_at : Slot → Texts → Option Text
 text_at workers t = t.workers
 text_at rounds t = t.rounds
 text_at command t = t.command
 text_at count t = t.count
 
-abbrev pub with_text : Place → Text → Texts → Texts
+abbrev pub with_text : Slot → Text → Texts → Texts
 with_text workers v t = record t { workers = Some v }
 with_text rounds v t = record t { rounds = Some v }
 with_text command v t = record t { command = Some v }
@@ -38,7 +38,7 @@ with_text count v t = record t { count = Some v }
 pub record Reading : Type 0 where
   pub texts : Texts
   -- the option whose value is the next word
-  pub waits : Option Place
+  pub waits : Option Slot
   -- `--` stood, behind which no word is an option
   pub is_closed : Bool
 
@@ -49,13 +49,13 @@ nothing = record {
   is_closed = false;
 }
 
--- the place is given the text, unless it has one
-abbrev pub give : Place → Text → Reading → Option Reading
+-- the slot is given the text, unless it has one
+abbrev pub give : Slot → Text → Reading → Option Reading
 give p v s = if is_some (text_at p s.texts) then None
     else Some (record s { texts = with_text p v s.texts; waits = None })
 
 -- the next word is the option's value, unless it has one
-abbrev pub wait_for : Place → Reading → Option Reading
+abbrev pub wait_for : Slot → Reading → Option Reading
 wait_for p s = if is_some (text_at p s.texts) then None else Some (record s { waits = Some p })
 
 -- a word that is no option's is the command, or else the count
@@ -63,7 +63,7 @@ abbrev pub give_next : Text → Reading → Option Reading
 give_next v s = if is_some s.texts.command then give count v s else give command v s
 
 -- the option that the word names by what stands before its first `=` (61)
-abbrev pub option_named : Text → Option Place
+abbrev pub option_named : Text → Option Slot
 option_named word =
     let name = before_first (λ b. b == 61) word in
     if bytes_eq (codes "--workers") name then Some workers
@@ -82,7 +82,7 @@ is_flag (b ∷ []) = false
 is_flag (b ∷ c ∷ cs) = b == 45
 
 -- a word that may name an option
-abbrev pub read_option : Option Place → Text → Reading → Option Reading
+abbrev pub read_option : Option Slot → Text → Reading → Option Reading
 read_option (Some p) word s = option_map_or (λ v. give p v s) (joined_value word) (wait_for p s)
 read_option None word s = if is_flag word then None else give_next word s
 
@@ -92,7 +92,7 @@ read_open word s = if bytes_eq word (codes "--") then Some (record s { is_closed
     else read_option (option_named word) word s
 
 -- one word more, or none where it may not stand there
-abbrev pub read_word : Option Place → Text → Reading → Option Reading
+abbrev pub read_word : Option Slot → Text → Reading → Option Reading
 read_word (Some p) word s = if is_flag word then None else give p word s
 read_word None word s = if s.is_closed then give_next word s else read_open word s
 

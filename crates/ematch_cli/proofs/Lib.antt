@@ -1,4 +1,3 @@
-pub mod TreeSizes
 pub mod Quotes
 pub mod Texts
 pub mod Matches

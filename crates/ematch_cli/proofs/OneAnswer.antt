@@ -1,5 +1,6 @@
 -- Each script has one answer at most.
-use Rattle.std.proofs.Common.{◌≡◌, ◌≢◌, ℕ, zero, suc, inl, inr, Bool, List, [], ◌∷◌, ◌++◌, Ok, Err, refl, sym, ap, ap₂, subst, ◌∙◌}
+use Rattle.std.proofs.Common.{◌≡◌, ◌≢◌, ℕ, zero, suc, inl, inr, Bool, List, [], ◌∷◌, ◌++◌, Ok, Err, refl, sym, ap, ap₂, subst, ◌∙◌, append_assoc}
+use Rattle.std.proofs.lemmas.List.{append-nil}
 use Rattle.std.specs.Prelude.{Result}
 use Rattle.em_outside.specs.declared.limits.Limits.{Limits}
 use Rattle.smt_text.specs.Word.{Word}
@@ -17,11 +18,13 @@ use Rattle.smt_commands.specs.Commands as commands
 use Rattle.smt_commands.specs.declared.command.Command as syntax
 use Rattle.smt_commands.specs.declared.command.Command.TheVariants as command
 use Rattle.ematch_cli.specs.ErrorLine.{refusal_line, room_line}
-use Rattle.ematch_cli.specs.Names.{names_of}
-use Rattle.ematch_cli.specs.Response.{IsResponse}
+use Rattle.em_printing.specs.Names.{names_of}
+use Rattle.ematch_cli.specs.Response.{IsCheckResponse, IsResponse}
 use Rattle.ematch_cli.specs.RunState.{RunState, run_state}
 use Rattle.ematch_cli.specs.Run.{repeated, Does, answered, Replies, FindsNoRoom, IsRefused}
-use Rattle.ematch_cli.specs.Output.{Answer, Finished, IsAnswer, behind, failure, last, opening}
+use Rattle.ematch_cli.specs.Output.{Answer, Finished, IsAnswer, BeginsWith, IsAnswerFront, behind, failure, last, opening}
+use Rattle.ematch_cli.specs.declared.task.Task.{Task}
+use Rattle.ematch_cli.specs.declared.task.Task.TheVariants.{Matches}
 use Rattle.ematch_cli.proofs.OneText.{listing_once}
 
 -- what holds between two commands of a run
@@ -47,18 +50,32 @@ repeated_keeps P change keeps (suc n) now is = repeated_keeps P change keeps n (
 pub right_opening : (limits : Limits) → IsSound (at_start limits) → IsRight (opening limits)
 right_opening limits sound = record { session = sound; tables = tables_at_start limits.terms limits.nodes }
 
+-- a check is answered by one text
+check_once : (task : Task) (after : RunState) (a b : List ℕ) → IsCheckResponse task after a → IsCheckResponse task after b → a ≡ b
+check_once Matches after a b one other = listing_once (names_of after.session) after.assertions.graph.standing a b one other
+
 -- a command is answered by one text
-response_once : (what : syntax.Command) (before after : RunState) (a b : List ℕ) → IsResponse what before after a → IsResponse what before after b → a ≡ b
-response_once command.Unsupported before after a b one other = one ∙ sym other
-response_once command.CheckSat before after a b one other = listing_once (names_of after.session) after.assertions.graph.standing a b one other
-response_once (command.GetInfo info) before after a b one other = one ∙ sym other
-response_once command.Reset before after a b one other = one ∙ sym other
-response_once command.Silent before after a b one other = one ∙ sym other
-response_once (command.Assert formula) before after a b one other = one ∙ sym other
-response_once (command.Push count) before after a b one other = one ∙ sym other
-response_once (command.Pop count) before after a b one other = one ∙ sym other
-response_once command.ResetAssertions before after a b one other = one ∙ sym other
-response_once command.Exit before after a b one other = one ∙ sym other
+response_once : (task : Task) (what : syntax.Command) (before after : RunState) (a b : List ℕ) → IsResponse task what before after a → IsResponse task what before after b → a ≡ b
+response_once task command.Unsupported before after a b one other = one ∙ sym other
+response_once task command.CheckSat before after a b one other = check_once task after a b one other
+response_once task (command.GetInfo info) before after a b one other = one ∙ sym other
+response_once task command.Reset before after a b one other = one ∙ sym other
+response_once task command.Silent before after a b one other = one ∙ sym other
+response_once task (command.Assert formula) before after a b one other = one ∙ sym other
+response_once task (command.Push count) before after a b one other = one ∙ sym other
+response_once task (command.Pop count) before after a b one other = one ∙ sym other
+response_once task command.ResetAssertions before after a b one other = one ∙ sym other
+response_once task command.Exit before after a b one other = one ∙ sym other
+
+-- what begins with nothing, and what begins with a front and has more behind it
+nothing_begins : (front bytes : List ℕ) → front ≡ [] → BeginsWith front bytes
+nothing_begins front bytes none = (bytes, ap (λ (f : List ℕ). f ++ bytes) (sym none))
+
+begins_more : (front text more : List ℕ) → BeginsWith front text → BeginsWith front (text ++ more)
+begins_more front text more begins = (begins.0 ++ more, ap (λ (t : List ℕ). t ++ more) begins.1 ∙ append_assoc front begins.0 more)
+
+begins_behind : (text front bytes : List ℕ) → BeginsWith front bytes → BeginsWith (text ++ front) (text ++ bytes)
+begins_behind text front bytes begins = (begins.0, ap (λ (b : List ℕ). text ++ b) begins.1 ∙ sym (append_assoc text front begins.0))
 
 module _ (limits : Limits) where
   -- a command does one thing
@@ -87,13 +104,13 @@ module _ (limits : Limits) where
   does_tables (command.GetInfo info) before after tables is does = subst AreTables (sym does) tables
   does_tables command.Exit before after tables is does = subst AreTables (sym does) tables
 
-module _ (limits : Limits) (law : KeepsSound) where
+module _ (task : Task) (limits : Limits) (law : KeepsSound) where
   -- what is asserted is a formula
   formula_of : (now : RunState) (words : List Word) (what : syntax.Command) (session : State) → IsRight now → elaborate now.session words ≡ Ok (answered what session) → (formula : Formula) → what ≡ command.Assert formula → IsFormula formula
   formula_of now words what session right elaborated formula is = ((law now.session words (answered what session) right.session elaborated).1 formula is).0
 
   -- a command is answered in one way
-  pub replies_once : (now : RunState) (words : List Word) (c d : syntax.Command) (s t : RunState) (a b : List ℕ) → IsRight now → Replies limits now words c s a → Replies limits now words d t b → (c ≡ d) × (s ≡ t) × (a ≡ b)
+  pub replies_once : (now : RunState) (words : List Word) (c d : syntax.Command) (s t : RunState) (a b : List ℕ) → IsRight now → Replies task limits now words c s a → Replies task limits now words d t b → (c ≡ d) × (s ≡ t) × (a ≡ b)
   replies_once now words c d s t a b right one other =
       let same : answered c s.session ≡ answered d t.session = ok_once (elaborate now.session words) (answered c s.session) (answered d t.session) one.elaborated other.elaborated in
       let what : c ≡ d = ap (λ (answer : commands.Answer). answer.command) same in
@@ -101,11 +118,11 @@ module _ (limits : Limits) (law : KeepsSound) where
       let also : Does limits c now.assertions t.assertions = subst (λ (x : syntax.Command). Does limits x now.assertions t.assertions) (sym what) other.does in
       let assertions : s.assertions ≡ t.assertions = does_once limits c now.assertions s.assertions t.assertions right.tables (formula_of now words c s.session right one.elaborated) one.does also in
       let state : s ≡ t = ap₂ run_state session assertions in
-      let responds : IsResponse c now s b = subst (λ (u : RunState). IsResponse c now u b) (sym state) (subst (λ (x : syntax.Command). IsResponse x now t b) (sym what) other.responds) in
-      (what, state, response_once c now s a b one.responds responds)
+      let responds : IsResponse task c now s b = subst (λ (u : RunState). IsResponse task c now u b) (sym state) (subst (λ (x : syntax.Command). IsResponse task x now t b) (sym what) other.responds) in
+      (what, state, response_once task c now s a b one.responds responds)
 
   -- and then not refused
-  pub refused_replies : {P : Type 0} (now : RunState) (words : List Word) (line : List ℕ) (c : syntax.Command) (s : RunState) (a : List ℕ) → IsRight now → IsRefused now words line → Replies limits now words c s a → P
+  pub refused_replies : {P : Type 0} (now : RunState) (words : List Word) (line : List ℕ) (c : syntax.Command) (s : RunState) (a : List ℕ) → IsRight now → IsRefused now words line → Replies task limits now words c s a → P
   refused_replies now words line c s a right (inl (fault, refused, is)) replies = not_both (elaborate now.session words) (answered c s.session) fault replies.elaborated refused
   refused_replies now words line c s a right (inr (fault, room, is)) replies =
       let same : answered c s.session ≡ answered (command.Assert room.formula) room.session = ok_once (elaborate now.session words) (answered c s.session) (answered (command.Assert room.formula) room.session) replies.elaborated room.elaborated in
@@ -126,14 +143,14 @@ module _ (limits : Limits) (law : KeepsSound) where
       (subst (λ (f : Formula). StopsAssert f now.assertions room'.after fault') (sym formulas) room'.stops)).0 ∙ sym is'
 
   -- what a command leaves is right
-  pub right_after : (now : RunState) (words : List Word) (c : syntax.Command) (s : RunState) (a : List ℕ) → IsRight now → Replies limits now words c s a → IsRight s
+  pub right_after : (now : RunState) (words : List Word) (c : syntax.Command) (s : RunState) (a : List ℕ) → IsRight now → Replies task limits now words c s a → IsRight s
   right_after now words c s a right replies = record {
     session = (law now.session words (answered c s.session) right.session replies.elaborated).0;
     tables = does_tables limits c now.assertions s.assertions right.tables (formula_of now words c s.session right replies.elaborated) replies.does;
   }
 
   -- a script has one answer
-  pub answer_once : (known : Bool) (script : Script) (now : RunState) (a b : Answer) → IsRight now → IsAnswer limits known script now a → IsAnswer limits known script now b → a ≡ b
+  pub answer_once : (known : Bool) (script : Script) (now : RunState) (a b : Answer) → IsRight now → IsAnswer task limits known script now a → IsAnswer task limits known script now b → a ≡ b
   unfolding IsAnswer
   answer_once known End now a b right one other = one ∙ sym other
   answer_once known (Fault fault) now a b right one other = one ∙ sym other
@@ -150,5 +167,30 @@ module _ (limits : Limits) (law : KeepsSound) where
       absurd (not (replies_once now words c command.Exit s t text text' right replies replies').0)
   answer_once known (Command words rest) now a b right (inr (inr (c, s, text, after, not, replies, goes, is))) (inr (inr (d, t, text', after', not', replies', goes', is'))) =
       let same = replies_once now words c d s t text text' right replies replies' in
-      let later = answer_once known rest s after after' (right_after now words c s text right replies) goes (subst (λ (u : RunState). IsAnswer limits known rest u after') (sym same.1) goes') in
+      let later = answer_once known rest s after after' (right_after now words c s text right replies) goes (subst (λ (u : RunState). IsAnswer task limits known rest u after') (sym same.1) goes') in
       is ∙ ap₂ behind same.2 later ∙ sym is'
+
+  -- an answer begins with each front of what is answered
+  pub front_once : (known : Bool) (script : Script) (now : RunState) (front : List ℕ) (answer : Answer) → IsRight now
+      → IsAnswerFront task limits known script now front → IsAnswer task limits known script now answer → BeginsWith front answer.bytes
+  unfolding IsAnswer IsAnswerFront
+  front_once known End now front answer right none is = nothing_begins front answer.bytes none
+  front_once known (Fault fault) now front answer right begins is = subst (λ (a : Answer). BeginsWith front a.bytes) (sym is) begins
+  front_once known (Command words rest) now front answer right (inl none) is = nothing_begins front answer.bytes none
+  front_once known (Command words rest) now front answer right (inr (inl (line, refused, begins))) (inl (line', refused', is)) =
+      subst (BeginsWith front) (refused_once now words line line' right refused refused' ∙ sym (ap (λ (a : Answer). a.bytes) is)) begins
+  front_once known (Command words rest) now front answer right (inr (inl (line, refused, begins))) (inr (inl (t, text, replies, is))) = refused_replies now words line command.Exit t text right refused replies
+  front_once known (Command words rest) now front answer right (inr (inl (line, refused, begins))) (inr (inr (d, t, text, after, not, replies, goes, is))) = refused_replies now words line d t text right refused replies
+  front_once known (Command words rest) now front answer right (inr (inr (inl (c, s, text, replies, begins)))) (inl (line, refused, is)) = refused_replies now words line c s text right refused replies
+  front_once known (Command words rest) now front answer right (inr (inr (inl (c, s, text, replies, begins)))) (inr (inl (t, text', replies', is))) =
+      subst (BeginsWith front) ((replies_once now words c command.Exit s t text text' right replies replies').2 ∙ sym (ap (λ (a : Answer). a.bytes) is)) begins
+  front_once known (Command words rest) now front answer right (inr (inr (inl (c, s, text, replies, begins)))) (inr (inr (d, t, text', after, not, replies', goes, is))) =
+      subst (BeginsWith front) (ap (λ (x : List ℕ). x ++ after.bytes) (replies_once now words c d s t text text' right replies replies').2 ∙ sym (ap (λ (a : Answer). a.bytes) is)) (begins_more front text after.bytes begins)
+  front_once known (Command words rest) now front answer right (inr (inr (inr (c, s, text, more, not, replies, fronts, is)))) (inl (line, refused, said)) = refused_replies now words line c s text right refused replies
+  front_once known (Command words rest) now front answer right (inr (inr (inr (c, s, text, more, not, replies, fronts, is)))) (inr (inl (t, text', replies', said))) =
+      absurd (not (replies_once now words c command.Exit s t text text' right replies replies').0)
+  front_once known (Command words rest) now front answer right (inr (inr (inr (c, s, text, more, not, replies, fronts, is)))) (inr (inr (d, t, text', after, not', replies', goes, said))) =
+      let same = replies_once now words c d s t text text' right replies replies' in
+      let inner = front_once known rest s more after (right_after now words c s text right replies) fronts (subst (λ (u : RunState). IsAnswer task limits known rest u after) (sym same.1) goes) in
+      subst (λ (f : List ℕ). BeginsWith f answer.bytes) (sym is)
+      (subst (BeginsWith (text ++ more)) (ap (λ (x : List ℕ). x ++ after.bytes) same.2 ∙ sym (ap (λ (a : Answer). a.bytes) said)) (begins_behind text more after.bytes inner))

@@ -3,42 +3,12 @@ use Rattle.std.proofs.Common.{◌≡◌, ℕ, List, [], ◌∷◌, ◌++◌, len
 use Rattle.graph_terms.specs.declared.term_row.TermRow.{TermRow}
 use Rattle.graph_trigger.specs.declared.trigger.Trigger.{Trigger}
 use Rattle.graph_meaning.specs.declared.done.Done.{Done}
-use Rattle.graph_terms.specs.Terms.{term_row, HasRow}
 use Rattle.graph_meaning.specs.Standing.{terms_of}
 use Rattle.graph_meaning.specs.OneListLaws.{one_matches}
 use Rattle.ematch_cli.specs.Joined.{AreJoined, joined_none, joined_more}
-use Rattle.ematch_cli.specs.Printed.{symbol_text, IsTermText, constant, application, AreTermTexts, texts_none, texts_more, IsPrinted, whole, numbered, IsEntry}
-use Rattle.ematch_cli.specs.Listing.{line, heading, IsTupleLine, IsTriggerListing, IsListing}
-use Rattle.ematch_cli.proofs.TreeSizes.{args_once, size_once}
+use Rattle.em_printing.specs.PrintedLaws.{printed_once}
+use Rattle.ematch_cli.specs.Listing.{line, heading, IsEntry, IsTupleLine, IsTriggerListing, IsListing}
 use Rattle.std.specs.Prelude.{codes}
-
-symbol_once : (rows : List TermRow) (term f g : ℕ) (xs ys : List ℕ) → HasRow rows term (term_row f xs) → HasRow rows term (term_row g ys) → f ≡ g
-symbol_once rows term f g xs ys one other =
-    let same_row : term_row f xs ≡ term_row g ys = cc in
-    ap (λ (row : TermRow). row.symbol) same_row
-
--- a list is not empty and begun at once
-not_both : {P : Type 0} (x : ℕ) (xs : List ℕ) → [] ≡ x ∷ xs → P
-not_both x xs e = absurd (cc)
-
-mutual
-  pub term_text_once : {names : ℕ → List ℕ} {rows : List TermRow} {term : ℕ} {a b : List ℕ} → IsTermText names rows term a → IsTermText names rows term b → a ≡ b
-  term_text_once {names} {rows} {term} (constant {symbol = f} has) (constant {symbol = g} has') = ap (λ (s : ℕ). symbol_text (names s)) (symbol_once rows term f g [] [] has has')
-  term_text_once {names} {rows} {term} (constant {symbol = f} has) (application {symbol = g} {arg = y} {args = ys} has' texts') = not_both y ys (args_once rows term f g [] (y ∷ ys) has has')
-  term_text_once {names} {rows} {term} (application {symbol = f} {arg = x} {args = xs} has texts) (constant {symbol = g} has') = not_both x xs (args_once rows term g f [] (x ∷ xs) has' has)
-  term_text_once {names} {rows} {term} (application {symbol = f} {arg = x} {args = xs} {text = t} has texts) (application {symbol = g} {arg = y} {args = ys} {text = u} has' texts') =
-      ap₂ (λ (s : ℕ) (z : List ℕ). 40 ∷ symbol_text (names s) ++ z ++ 41 ∷ []) (symbol_once rows term f g (x ∷ xs) (y ∷ ys) has has')
-      (term_texts_once texts (subst (λ (zs : List ℕ). AreTermTexts names rows zs u) (args_once rows term g f (y ∷ ys) (x ∷ xs) has' has) texts'))
-
-  pub term_texts_once : {names : ℕ → List ℕ} {rows : List TermRow} {terms : List ℕ} {a b : List ℕ} → AreTermTexts names rows terms a → AreTermTexts names rows terms b → a ≡ b
-  term_texts_once texts_none texts_none = refl
-  term_texts_once (texts_more is texts) (texts_more is' texts') = ap₂ (λ (t u : List ℕ). 32 ∷ t ++ u) (term_text_once is is') (term_texts_once texts texts')
-
-pub printed_once : {names : ℕ → List ℕ} {rows : List TermRow} {term : ℕ} {a b : List ℕ} → IsPrinted names rows term a → IsPrinted names rows term b → a ≡ b
-printed_once (whole size few is) (whole size' few' is') = term_text_once is is'
-printed_once (whole {size = m} size few is) (numbered {size = n} size' many') = let same : m ≡ n = size_once size size' in absurd (omega arith)
-printed_once (numbered {size = m} size many) (whole {size = n} size' few' is') = let same : m ≡ n = size_once size size' in absurd (omega arith)
-printed_once (numbered size many) (numbered size' many') = refl
 
 -- texts one after another are one text, where each is
 pub joined_once : {A : Type 0} (IsTextOf : A → List ℕ → Type 0) → ((x : A) (a b : List ℕ) → IsTextOf x a → IsTextOf x b → a ≡ b) → {xs : List A} {a b : List ℕ} → AreJoined IsTextOf xs a → AreJoined IsTextOf xs b → a ≡ b

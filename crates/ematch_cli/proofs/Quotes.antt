@@ -3,7 +3,7 @@ use Rattle.std.proofs.Common.{◌≡◌, ℕ, ◌+◌, ◌≤◌, Bool, true, fa
 use Rattle.std.specs.Prelude.{slice_get, ◌==◌, if◌then◌else◌}
 use Rattle.std.proofs.lemmas.List.{drop_all, append-nil}
 use Rattle.ematch_cli.specs.ErrorLine.{quoted}
-use Rattle.ematch_cli.proofs.TreeSizes.{drop_at}
+use Rattle.ematch_cli.proofs.Texts.{drop_at}
 
 -- the first byte is quoted by itself
 quoted_first : (b : ℕ) (bytes : List ℕ) → quoted (b ∷ bytes) ≡ quoted (b ∷ []) ++ quoted bytes

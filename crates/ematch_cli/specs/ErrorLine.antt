@@ -16,7 +16,9 @@ use Rattle.ematch_cli.specs.Listing.{line}
 
 -- the line of an error at a place, `(error "line L column C: TEXT")`
 abbrev pub error_line : Place → List ℕ → List ℕ
-error_line place text = line (codes "(error \"line " ++ decimal place.line ++ codes " column " ++ decimal place.column ++ codes ": " ++ text ++ codes "\")")
+error_line place text =
+    line (codes "(error \"line " ++ decimal place.line ++ codes " column " ++ decimal place.column
+    ++ codes ": " ++ text ++ codes "\")")
 
 -- what is said of a fault of the bytes
 abbrev pub fault_text : ByteFault → List ℕ

@@ -1,7 +1,4 @@
 pub mod Joined
-pub mod Names
-pub mod Printed
-pub mod Writing
 pub mod Listing
 pub mod RunState
 pub mod ErrorLine
@@ -13,4 +10,3 @@ pub mod Output
 pub mod Headline
 pub mod WritesError
 pub mod Reply
-pub mod WritesTerm

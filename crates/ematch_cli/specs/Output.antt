@@ -11,6 +11,7 @@ use Rattle.smt_commands.specs.declared.command.Command.TheVariants.{Exit}
 use Rattle.ematch_cli.specs.ErrorLine.{fault_line}
 use Rattle.ematch_cli.specs.Run.{Replies, IsRefused}
 use Rattle.ematch_cli.specs.RunState.{RunState, run_state}
+use Rattle.ematch_cli.specs.declared.task.Task.{Task}
 
 -- how the answer to some bytes ends: more may follow, or by the end of the script or its `exit`, or by an error
 pub data Ending : Type 0 where
@@ -51,23 +52,49 @@ at_fault known fault = failure (fault_line fault)
 
 -- The answer to a script from a state on: the answers to its commands in order, up to the first that is refused, to
 -- `exit`, to the first fault of its bytes, or to their end, of which it is known or not whether it is the script's.
-unfoldable pub IsAnswer : Limits → (known : Bool) → Script → RunState → Answer → Type 0
-IsAnswer limits known End state answer = answer ≡ at_end known
-IsAnswer limits known (Fault fault) state answer = answer ≡ at_fault known fault
-IsAnswer limits known (Command words rest) state answer =
+unfoldable pub IsAnswer : Task → Limits → (known : Bool) → Script → RunState → Answer → Type 0
+IsAnswer task limits known End state answer = answer ≡ at_end known
+IsAnswer task limits known (Fault fault) state answer = answer ≡ at_fault known fault
+IsAnswer task limits known (Command words rest) state answer =
     ((line : List ℕ) × IsRefused state words line × (answer ≡ failure line))
-    ⊎ (((later : RunState) × (text : List ℕ) × Replies limits state words Exit later text × (answer ≡ last text Finished))
+    ⊎ (((later : RunState) × (text : List ℕ) × Replies task limits state words Exit later text
+    × (answer ≡ last text Finished))
     ⊎ ((command : syntax.Command) × (later : RunState) × (text : List ℕ) × (after : Answer)
-    × (command ≢ Exit) × Replies limits state words command later text × IsAnswer limits known rest later after × (answer ≡ behind text after)))
+    × (command ≢ Exit) × Replies task limits state words command later text
+    × IsAnswer task limits known rest later after × (answer ≡ behind text after)))
+
+-- the bytes begin with this front
+abbrev pub BeginsWith : List ℕ → List ℕ → Type 0
+BeginsWith front bytes = (rest : List ℕ) × (bytes ≡ front ++ rest)
+
+-- A front of what is answered to a script from a state on: there are the replies to its first commands, none of them
+-- `exit`, and these bytes are the replies and a front of the reply to the next command, or of the line of the error
+-- there. The line that only the end of the bytes makes is begun only where it is known that they end.
+unfoldable pub IsAnswerFront : Task → Limits → (known : Bool) → Script → RunState → List ℕ → Type 0
+IsAnswerFront task limits known End state bytes = bytes ≡ []
+IsAnswerFront task limits known (Fault fault) state bytes = BeginsWith bytes (at_fault known fault).bytes
+IsAnswerFront task limits known (Command words rest) state bytes =
+    (bytes ≡ [])
+    ⊎ (((line : List ℕ) × IsRefused state words line × BeginsWith bytes line)
+    ⊎ (((command : syntax.Command) × (later : RunState) × (text : List ℕ)
+    × Replies task limits state words command later text × BeginsWith bytes text)
+    ⊎ ((command : syntax.Command) × (later : RunState) × (text : List ℕ) × (more : List ℕ)
+    × (command ≢ Exit) × Replies task limits state words command later text
+    × IsAnswerFront task limits known rest later more × (bytes ≡ text ++ more))))
 
 -- before the first command
 abbrev pub opening : Limits → RunState
 opening limits = run_state (at_start limits) (no_assertions limits.terms limits.nodes)
 
 -- the answer to all the bytes of a script
-abbrev pub IsOutput : Limits → List ℕ → Answer → Type 0
-IsOutput limits bytes answer = IsAnswer limits true (script_of limits bytes) (opening limits) answer
+abbrev pub IsOutput : Task → Limits → List ℕ → Answer → Type 0
+IsOutput task limits bytes answer = IsAnswer task limits true (script_of limits bytes) (opening limits) answer
 
 -- the answer to the bytes of a script so far
-abbrev pub IsOutputSoFar : Limits → List ℕ → Answer → Type 0
-IsOutputSoFar limits bytes answer = IsAnswer limits false (script_of limits bytes) (opening limits) answer
+abbrev pub IsOutputSoFar : Task → Limits → List ℕ → Answer → Type 0
+IsOutputSoFar task limits bytes answer = IsAnswer task limits false (script_of limits bytes) (opening limits) answer
+
+-- a front of what is answered to these bytes, of which it is known or not whether they are all of the script's
+abbrev pub IsFrontOf : Task → Limits → (known : Bool) → List ℕ → List ℕ → Type 0
+IsFrontOf task limits known bytes front =
+    IsAnswerFront task limits known (script_of limits bytes) (opening limits) front

@@ -15,13 +15,15 @@ use Rattle.ematch_cli.specs.ErrorLine.{refusal_line, room_line}
 use Rattle.ematch_cli.specs.Run.{Replies, IsRefused}
 use Rattle.ematch_cli.specs.RunState.{RunState}
 use Rattle.ematch_cli.specs.declared.reply.Reply.{Reply}
+use Rattle.ematch_cli.specs.declared.task.Task.{Task}
 use Rattle.ematch_cli.specs.declared.unanswered.Unanswered.{Unanswered}
 use Rattle.ematch_cli.specs.declared.unanswered.Unanswered.TheVariants.{Refused, Memory}
 
 -- the words were answered by the reply, which ends the script exactly where they are those of `exit`
-pub record IsReply (limits : Limits) (before : RunState) (words : List Word) (after : RunState) (reply : Reply) : Type 0 where
+pub record IsReply (task : Task) (limits : Limits) (before : RunState) (words : List Word) (after : RunState)
+    (reply : Reply) : Type 0 where
   pub command : Command
-  pub replies : Replies limits before words command after reply.text.items
+  pub replies : Replies task limits before words command after reply.text.items
   pub exits : IsTrue reply.exits ↔ (command ≡ Exit)
 
 -- the words are refused with the line, or memory was, which is free
@@ -31,7 +33,9 @@ IsUnanswered before words Memory = Unit {0}
 
 -- the line says that there is no room for the formula, or memory was refused
 abbrev pub FindsNoRoomFor : Formula → Assertions → List Word → Unanswered → Type 0
-FindsNoRoomFor formula before words (Refused line) = (fault : EnterFault) × (after : Assertions) × StopsAssert formula before after fault × (fault ≢ enter.Memory) × (line.items ≡ room_line words fault)
+FindsNoRoomFor formula before words (Refused line) =
+    (fault : EnterFault) × (after : Assertions) × StopsAssert formula before after fault
+    × (fault ≢ enter.Memory) × (line.items ≡ room_line words fault)
 FindsNoRoomFor formula before words Memory = Unit {0}
 
 -- so does the command, where it asserts a formula

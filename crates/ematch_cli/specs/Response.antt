@@ -6,8 +6,10 @@ use Rattle.smt_commands.specs.declared.command.Command.TheVariants as command
 use Rattle.smt_commands.specs.declared.info.Info.{Info}
 use Rattle.smt_commands.specs.declared.info.Info.TheVariants as info
 use Rattle.ematch_cli.specs.Listing.{line, IsListing}
-use Rattle.ematch_cli.specs.Names.{names_of}
+use Rattle.em_printing.specs.Names.{names_of}
 use Rattle.ematch_cli.specs.RunState.{RunState}
+use Rattle.ematch_cli.specs.declared.task.Task.{Task}
+use Rattle.ematch_cli.specs.declared.task.Task.TheVariants.{Matches}
 
 -- the line `success`, where it is printed
 abbrev pub success : Bool → List ℕ
@@ -17,7 +19,7 @@ success false = []
 abbrev pub unsupported : List ℕ
 unsupported = line (codes "unsupported")
 
--- an information, where so many levels are open; no `check-sat` of matches answers `unknown`, so that no reason for it is known
+-- an information, where so many levels are open; no `check-sat` answers `unknown`, so that no reason for it is known
 abbrev pub info_text : Info → ℕ → List ℕ
 info_text info.Name levels = line (codes "(:name \"ematch\")")
 info_text info.Version levels = line (codes "(:version \"1.0\")")
@@ -27,15 +29,19 @@ info_text info.Levels levels = line (codes "(:assertion-stack-levels " ++ decima
 info_text info.ReasonUnknown levels = unsupported
 info_text info.Other levels = unsupported
 
+-- what a task answers to `check-sat`
+abbrev pub IsCheckResponse : Task → RunState → List ℕ → Type 0
+IsCheckResponse Matches after text = IsListing (names_of after.session) after.assertions.graph.standing text
+
 -- `success` is printed as the option stands after the command, but at `reset` as it stood before
-abbrev pub IsResponse : Command → RunState → RunState → List ℕ → Type 0
-IsResponse command.Unsupported before after text = text ≡ unsupported
-IsResponse command.CheckSat before after text = IsListing (names_of after.session) after.assertions.graph.standing text
-IsResponse (command.GetInfo info) before after text = text ≡ info_text info (length after.session.levels)
-IsResponse command.Reset before after text = text ≡ success before.session.prints_success
-IsResponse command.Silent before after text = text ≡ success after.session.prints_success
-IsResponse (command.Assert formula) before after text = text ≡ success after.session.prints_success
-IsResponse (command.Push count) before after text = text ≡ success after.session.prints_success
-IsResponse (command.Pop count) before after text = text ≡ success after.session.prints_success
-IsResponse command.ResetAssertions before after text = text ≡ success after.session.prints_success
-IsResponse command.Exit before after text = text ≡ success after.session.prints_success
+abbrev pub IsResponse : Task → Command → RunState → RunState → List ℕ → Type 0
+IsResponse task command.Unsupported before after text = text ≡ unsupported
+IsResponse task command.CheckSat before after text = IsCheckResponse task after text
+IsResponse task (command.GetInfo info) before after text = text ≡ info_text info (length after.session.levels)
+IsResponse task command.Reset before after text = text ≡ success before.session.prints_success
+IsResponse task command.Silent before after text = text ≡ success after.session.prints_success
+IsResponse task (command.Assert formula) before after text = text ≡ success after.session.prints_success
+IsResponse task (command.Push count) before after text = text ≡ success after.session.prints_success
+IsResponse task (command.Pop count) before after text = text ≡ success after.session.prints_success
+IsResponse task command.ResetAssertions before after text = text ≡ success after.session.prints_success
+IsResponse task command.Exit before after text = text ≡ success after.session.prints_success

@@ -15,13 +15,15 @@ use Rattle.smt_commands.specs.declared.command.Command.TheVariants as command
 use Rattle.ematch_cli.specs.ErrorLine.{refusal_line, room_line}
 use Rattle.ematch_cli.specs.Response.{IsResponse}
 use Rattle.ematch_cli.specs.RunState.{RunState}
+use Rattle.ematch_cli.specs.declared.task.Task.{Task}
 
 -- so many times
 abbrev pub repeated : ℕ → (Assertions → Assertions) → Assertions → Assertions
 repeated zero change now = now
 repeated (suc n) change now = repeated n change (change now)
 
--- What a command does to the standing assertions: a formula is asserted, levels are opened or closed, or all are forgotten.
+-- What a command does to the standing assertions: a formula is asserted, levels are opened or closed, or all are
+-- forgotten.
 abbrev pub Does : Limits → Command → Assertions → Assertions → Type 0
 Does limits (command.Assert formula) before after = AssertsFormula formula before after
 Does limits (command.Push count) before after = after ≡ repeated count pushed before
@@ -39,10 +41,11 @@ abbrev pub answered : Command → State → Answer
 answered command state = record { command = command; state = state }
 
 -- The words mean the command, which is done and answered by the text.
-pub record Replies (limits : Limits) (before : RunState) (words : List Word) (command : Command) (after : RunState) (text : List ℕ) : Type 0 where
+pub record Replies (task : Task) (limits : Limits) (before : RunState) (words : List Word) (command : Command)
+    (after : RunState) (text : List ℕ) : Type 0 where
   pub elaborated : elaborate before.session words ≡ Ok (answered command after.session)
   pub does : Does limits command before.assertions after.assertions
-  pub responds : IsResponse command before after text
+  pub responds : IsResponse task command before after text
 
 -- The words assert a formula for which there is no room.
 pub record FindsNoRoom (before : RunState) (words : List Word) (fault : EnterFault) : Type 0 where

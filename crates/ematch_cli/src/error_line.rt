@@ -4,7 +4,7 @@ ghost use Rattle.smt_text.specs.Word.{first_place};
 ghost use Rattle.smt_commands.specs.Commands.{start};
 ghost use Rattle.ematch_cli.specs.ErrorLine.{error_line, fault_text, fault_line, quoted, refusal_text, refusal_line, room_text, room_line};
 
-use crate::printed::push_number;
+use em_printing::push_number;
 use formula_table::EnterFault;
 use smt_names::{Refusal, SyntaxFault};
 use smt_text::{ByteFault, Place, Tree};

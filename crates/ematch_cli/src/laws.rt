@@ -1,14 +1,25 @@
 //! Laws of the definitions, on functions that do nothing.
-ghost use Rattle.std.specs.Prelude.{◌≡◌, ℕ, List};
+ghost use Rattle.std.specs.Prelude.{◌≡◌, ℕ, true, false, List};
 ghost use Rattle.em_outside.specs.declared.limits.Limits.{Limits};
-ghost use Rattle.ematch_cli.specs.Output.{Answer, IsOutput, IsOutputSoFar};
+ghost use Rattle.ematch_cli.specs.Output.{Answer, BeginsWith, IsOutput, IsOutputSoFar, IsFrontOf};
+ghost use Rattle.ematch_cli.specs.declared.task.Task.{Task};
 
 use smt_commands::laws::session_law;
 
 /// A script has one answer at most, and so have the bytes of a script so far.
 pub fn one_answer()
-    ensures output { (limits : Limits) (bytes : List ℕ) (a b : Answer) → IsOutput limits bytes a → IsOutput limits bytes b → a ≡ b }
-    ensures so_far { (limits : Limits) (bytes : List ℕ) (a b : Answer) → IsOutputSoFar limits bytes a → IsOutputSoFar limits bytes b → a ≡ b }
+    ensures output { (task : Task) (limits : Limits) (bytes : List ℕ) (a b : Answer) → IsOutput task limits bytes a → IsOutput task limits bytes b → a ≡ b }
+    ensures so_far { (task : Task) (limits : Limits) (bytes : List ℕ) (a b : Answer) → IsOutputSoFar task limits bytes a → IsOutputSoFar task limits bytes b → a ≡ b }
+{
+    session_law();
+}
+
+/// Where bytes are a front of what is answered to a script, or to its bytes so far, the answer begins with them.
+pub fn front_law()
+    ensures output { (task : Task) (limits : Limits) (bytes front : List ℕ) (answer : Answer)
+        → IsFrontOf task limits true bytes front → IsOutput task limits bytes answer → BeginsWith front answer.bytes }
+    ensures so_far { (task : Task) (limits : Limits) (bytes front : List ℕ) (answer : Answer)
+        → IsFrontOf task limits false bytes front → IsOutputSoFar task limits bytes answer → BeginsWith front answer.bytes }
 {
     session_law();
 }

@@ -4,18 +4,15 @@
 mod error_line;
 mod laws;
 mod listing;
-mod printed;
 mod reply;
 mod response;
 mod run;
 mod script;
 mod status;
-mod term_writer;
-#[cfg(test)]
-mod tests;
+mod task;
 mod unanswered;
 
-pub use laws::one_answer;
+pub use laws::{front_law, one_answer};
 pub use run::{report, run_alone};
 pub use status::Status;
-pub use term_writer::{TermStop, write_term};
+pub use task::Task;

@@ -2,13 +2,12 @@
 ghost use Rattle.std.specs.Prelude.{◌≡◌, ◌<◌, ◌++◌, All, length, slice_get, Some, IfOk, OnOk};
 ghost use Rattle.graph_meaning.specs.Standing.{terms_of, triggers_of};
 ghost use Rattle.graph_trigger.specs.declared.trigger.Trigger.{Trigger};
-ghost use Rattle.ematch_cli.specs.Names.{names_of};
+ghost use Rattle.em_printing.specs.Names.{names_of};
 ghost use Rattle.ematch_cli.specs.Joined.{AreJoined};
-ghost use Rattle.ematch_cli.specs.Printed.{IsEntry};
-ghost use Rattle.ematch_cli.specs.Listing.{heading, IsTupleLine, IsTriggerListing, IsListing};
-ghost use Rattle.ematch_cli.specs.Writing.{Puts};
+ghost use Rattle.ematch_cli.specs.Listing.{IsEntry, heading, IsTupleLine, IsTriggerListing, IsListing};
+ghost use Rattle.em_printing.specs.Writing.{Puts};
 
-use crate::printed::{push_entry, push_number};
+use em_printing::{push_number, push_printed};
 use graph_meaning::ClassGraph;
 use graph_terms::{Memory, Numbers};
 use graph_trigger::Trigger;
@@ -27,6 +26,21 @@ fn push_heading(text: &mut Vec<u8>, trigger: &Trigger, tuples: usize) -> Result<
     text.extend_from_slice(b": ")?;
     push_number(text, tuples as u64)?;
     text.push(b'\n')?;
+    Ok(())
+}
+
+/// Writes an entry of a tuple: a blank, and the term as it is listed.
+fn push_entry<G: ClassGraph>(
+    text: &mut Vec<u8>,
+    session: &Session,
+    graph: &G,
+    term: u32,
+) -> Result<(), AllocError>
+    requires { term < length (terms_of (G.standing graph.now)) }
+    ensures { OnOk result (Puts (IsEntry (names_of session.now) (terms_of (G.standing graph.now)) term) text.old.items text.new.items) }
+{
+    text.push(b' ')?;
+    push_printed(text, session, graph, term)?;
     Ok(())
 }
 

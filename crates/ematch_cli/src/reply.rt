@@ -5,10 +5,11 @@ ghost use Rattle.formula_assert.specs.Assertions.{no_assertions, pushed, popped}
 ghost use Rattle.formula_assert.specs.AssertFormula.{AssertsFormula};
 ghost use Rattle.smt_commands.specs.declared.command.Command.TheVariants.{Exit};
 ghost use Rattle.ematch_cli.specs.Run.{repeated, Does};
-ghost use Rattle.ematch_cli.specs.Response.{IsResponse};
+ghost use Rattle.ematch_cli.specs.Response.{IsCheckResponse, IsResponse};
 ghost use Rattle.ematch_cli.specs.RunState.{RunState, run_state};
 ghost use Rattle.ematch_cli.specs.Reply.{IsReply, IsUnanswered, FindsNoRoomFor, IsWithoutRoom, IsUnread};
 
+use crate::Task;
 use crate::error_line::{refusal_line, room_line};
 use crate::listing::listing;
 use crate::response::{info_text, success, unsupported};
@@ -122,19 +123,34 @@ fn perform(
     }
 }
 
+/// The text that answers a `check-sat`.
+fn check_response(
+    alloc: Global,
+    task: Task,
+    session: &Session,
+    stack: &AssertionStack,
+) -> Result<Vec<u8>, Memory>
+    ensures { IfOk result (λ text. IsCheckResponse task (run_state session.now stack.now) text.items) }
+{
+    match task {
+        Task::Matches => listing(alloc, session, stack.graph()),
+    }
+}
+
 /// The text that answers a command that was done, where `prints` says whether success was printed before it.
 fn respond(
     alloc: Global,
+    task: Task,
     session: &Session,
     stack: &AssertionStack,
     command: &Command,
     prints: bool,
 ) -> Result<Vec<u8>, Memory>
-    ensures { IfOk result (λ text. (before : RunState) → before.session.prints_success ≡ prints → IsResponse command.now before (run_state session.now stack.now) text.items) }
+    ensures { IfOk result (λ text. (before : RunState) → before.session.prints_success ≡ prints → IsResponse task command.now before (run_state session.now stack.now) text.items) }
 {
     match command {
         Command::Unsupported => Ok(Vec::from_slice(alloc, unsupported())?),
-        Command::CheckSat => listing(alloc, session, stack.graph()),
+        Command::CheckSat => check_response(alloc, task, session, stack),
         Command::GetInfo { info } => Ok(info_text(alloc, *info, session.levels())?),
         Command::Reset => Ok(Vec::from_slice(alloc, success(prints))?),
         Command::Silent
@@ -172,13 +188,14 @@ fn unread(alloc: Global, stop: &Stop) -> Unanswered
 /// Reads a command, does what it says, and gives what answers it.
 pub(crate) fn answer_command(
     alloc: Global,
+    task: Task,
     limits: &Limits,
     session: &mut Session,
     stack: &mut AssertionStack,
     tree: &Tree,
 ) -> Result<Reply, Unanswered>
     requires { AreLawful limits.now }
-    ensures ok { IfOk result (λ reply. IsReply limits.now (run_state session.old stack.old) tree.now (run_state session.new stack.new) reply) }
+    ensures ok { IfOk result (λ reply. IsReply task limits.now (run_state session.old stack.old) tree.now (run_state session.new stack.new) reply) }
     ensures refused { IfErr result (IsUnanswered (run_state session.old stack.old) tree.now) }
 {
     let prints = session.prints_success();
@@ -187,7 +204,7 @@ pub(crate) fn answer_command(
         Ok(command) => match perform(alloc, limits, stack, tree, &command) {
             Err(unanswered) => Err(unanswered),
             Ok(()) => {
-                let text = respond(alloc, session, stack, &command, prints)?;
+                let text = respond(alloc, task, session, stack, &command, prints)?;
                 Ok(Reply {
                     text,
                     exits: is_exit(&command),

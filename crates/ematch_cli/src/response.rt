@@ -2,7 +2,7 @@
 ghost use Rattle.std.specs.Prelude.{◌≡◌, IfOk};
 ghost use Rattle.ematch_cli.specs.Response.{success, unsupported, info_text};
 
-use crate::printed::push_number;
+use em_printing::push_number;
 use smt_commands::Info;
 use std::alloc::{AllocError, Global};
 

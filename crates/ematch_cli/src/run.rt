@@ -1,27 +1,16 @@
 //! The top call.
-ghost use Rattle.std.specs.Prelude.{◌≡◌, ◌≢◌, ◌↔◌, ◌⊎◌, IsTrue, IfOk};
+ghost use Rattle.std.specs.Prelude.{◌≡◌, ◌≢◌, ◌⊎◌, None, IfSome};
 ghost use Rattle.em_outside.specs.Causes.{Rose};
 ghost use Rattle.em_outside.specs.Limits.{AreLawful};
 ghost use Rattle.ematch_cli.specs.Headline.{Answers, Reports};
-ghost use Rattle.ematch_cli.specs.Words.{AreWords};
+ghost use Rattle.ematch_cli.specs.Words.{task_asked};
 
 use crate::script::answer_script;
 use crate::status::{Status, text_of};
+use crate::task::task_asked;
 use em_outside::{Limits, Sink, Source, write_all};
-use em_words::{Job, WordsFault, read_words};
 use graph_terms::Memory;
 use std::alloc::Global;
-
-/// Whether the words ask for matches without workers.
-fn are_words(alloc: Global, words: &[String]) -> Result<bool, Memory>
-    ensures { IfOk result (λ asked. IsTrue asked ↔ AreWords words.now) }
-{
-    match read_words(alloc, words) {
-        Ok(asked) => Ok(asked.job == Job::Matches && asked.workers == 0),
-        Err(WordsFault::Refused) => Ok(false),
-        Err(WordsFault::Memory) => Err(Memory),
-    }
-}
 
 /// Reads and answers the script, where the words ask for this.
 fn run_words<I: Source, O: Sink>(
@@ -32,19 +21,19 @@ fn run_words<I: Source, O: Sink>(
     out: &mut O,
 ) -> Status
     requires { AreLawful limits.now }
-    ensures refused { result ≡ Status.WordsRefused → AreWords words.now → ⊥ }
-    ensures others { (AreWords words.now → ⊥) → (result ≡ Status.WordsRefused) ⊎ (result ≡ Status.NoMemory) }
-    ensures untouched { (AreWords words.now → ⊥) → (input.new ≡ input.old) × (out.new ≡ out.old) }
-    ensures answers { AreWords words.now
-        → Answers limits.now (I.left input.old) (I.left input.new) (O.written out.old) (O.written out.new) result }
+    ensures refused { result ≡ Status.WordsRefused → task_asked words.now ≡ None }
+    ensures others { task_asked words.now ≡ None → (result ≡ Status.WordsRefused) ⊎ (result ≡ Status.NoMemory) }
+    ensures untouched { task_asked words.now ≡ None → (input.new ≡ input.old) × (out.new ≡ out.old) }
+    ensures answers { IfSome (task_asked words.now) (λ task.
+        Answers task limits.now (I.left input.old) (I.left input.new) (O.written out.old) (O.written out.new) result) }
     ensures read_fault { result ≡ Status.ReadFault → Rose (I.fault_count input.old) (I.fault_count input.new) }
     ensures write_fault { result ≡ Status.WriteFault → Rose (O.fault_count out.old) (O.fault_count out.new) }
     ensures quiet_in { result ≢ Status.ReadFault → I.fault_count input.new ≡ I.fault_count input.old }
     ensures quiet_out { result ≢ Status.WriteFault → O.fault_count out.new ≡ O.fault_count out.old }
 {
-    match are_words(alloc, words) {
-        Ok(true) => answer_script(alloc, limits, input, out),
-        Ok(false) => Status::WordsRefused,
+    match task_asked(alloc, words) {
+        Ok(Some(task)) => answer_script(alloc, task, limits, input, out),
+        Ok(None) => Status::WordsRefused,
         Err(Memory) => Status::NoMemory,
     }
 }
@@ -62,14 +51,14 @@ pub fn run_alone<I: Source, O: Sink, E: Sink>(
 ) -> Status
     requires { AreLawful limits.now }
 
-    // The words are refused exactly where they do not ask for this, but for memory, and then nothing is read or written.
-    ensures refused { result ≡ Status.WordsRefused → AreWords words.now → ⊥ }
-    ensures others { (AreWords words.now → ⊥) → (result ≡ Status.WordsRefused) ⊎ (result ≡ Status.NoMemory) }
-    ensures untouched { (AreWords words.now → ⊥) → (input.new ≡ input.old) × (out.new ≡ out.old) }
+    // The words are refused exactly where they ask for no task that is built, but for memory, and then nothing is read or written.
+    ensures refused { result ≡ Status.WordsRefused → task_asked words.now ≡ None }
+    ensures others { task_asked words.now ≡ None → (result ≡ Status.WordsRefused) ⊎ (result ≡ Status.NoMemory) }
+    ensures untouched { task_asked words.now ≡ None → (input.new ≡ input.old) × (out.new ≡ out.old) }
 
     // What stands on the output is the script's answer, as far as the status says, and an error has its own status.
-    ensures answers { AreWords words.now
-        → Answers limits.now (I.left input.old) (I.left input.new) (O.written out.old) (O.written out.new) result }
+    ensures answers { IfSome (task_asked words.now) (λ task.
+        Answers task limits.now (I.left input.old) (I.left input.new) (O.written out.old) (O.written out.new) result) }
 
     // A fault is answered only where the count of what failed rose.
     ensures read_fault { result ≡ Status.ReadFault → Rose (I.fault_count input.old) (I.fault_count input.new) }

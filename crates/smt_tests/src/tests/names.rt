@@ -3,8 +3,8 @@ use em_outside::Limits;
 use formula_draft::FormulaDraft;
 use graph_terms::{Memory, Numbers};
 use smt_names::{
-    BoundNames, Connective, Definition, Head, Refusal, SessionState, Signature, Stands, Stop,
-    Value, check_lawful_name, is_keyword, is_numeral,
+    BoundNames, Connective, Definition, DistinctNames, Head, Refusal, SessionState, Signature,
+    Stands, Stop, Value, check_lawful_name, is_keyword, is_numeral,
 };
 use smt_text::{Kind, Place};
 use std::alloc::Global;

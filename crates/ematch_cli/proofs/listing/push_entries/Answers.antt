@@ -1,8 +1,8 @@
 use Rattle.std.proofs.Common.{get_or, arith}
 use Rattle.std.proofs.lemmas.Option.{slice_get-get_or}
 use Rattle.graph_meaning.specs.Standing.{terms_of}
-use Rattle.ematch_cli.specs.Names.{names_of}
-use Rattle.ematch_cli.specs.Printed.{IsEntry}
+use Rattle.em_printing.specs.Names.{names_of}
+use Rattle.ematch_cli.specs.Listing.{IsEntry}
 use Rattle.ematch_cli.proofs.Texts.{under_way_none, under_way_more, under_way_all}
 use Rattle.ematch_cli.proofs.listing.push_entries.Goals as goal
 

@@ -1,6 +1,6 @@
 use Rattle.graph_meaning.specs.Standing.{terms_of}
-use Rattle.ematch_cli.specs.Names.{names_of}
-use Rattle.ematch_cli.specs.Printed.{IsEntry}
+use Rattle.em_printing.specs.Names.{names_of}
+use Rattle.ematch_cli.specs.Listing.{IsEntry}
 use Rattle.ematch_cli.proofs.Texts.{IsUnderWay}
 use Rattle.ematch_cli.proofs.listing.push_entries.Given as goal
 

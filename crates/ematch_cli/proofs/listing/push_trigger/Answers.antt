@@ -2,7 +2,7 @@ use Rattle.std.proofs.Common.{◌≡◌, List, ℕ, ◌<◌, ◌++◌, length, A
 use Rattle.graph_meaning.specs.Standing.{terms_of}
 use Rattle.ematch_cli.specs.Joined.{AreJoined}
 use Rattle.ematch_cli.specs.Listing.{heading, IsTupleLine}
-use Rattle.ematch_cli.specs.Names.{names_of}
+use Rattle.em_printing.specs.Names.{names_of}
 use Rattle.ematch_cli.proofs.Matches.{match_terms}
 use Rattle.ematch_cli.proofs.Texts.{put_two}
 use Rattle.ematch_cli.proofs.listing.push_trigger.Goals as goal

@@ -1,6 +1,6 @@
 use Rattle.std.proofs.Common.{arith}
 use Rattle.graph_meaning.specs.Standing.{triggers_of}
-use Rattle.ematch_cli.specs.Names.{names_of}
+use Rattle.em_printing.specs.Names.{names_of}
 use Rattle.ematch_cli.specs.Listing.{IsTriggerListing}
 use Rattle.ematch_cli.proofs.Texts.{under_way_none, under_way_more, under_way_all}
 use Rattle.ematch_cli.proofs.listing.push_triggers.Goals as goal

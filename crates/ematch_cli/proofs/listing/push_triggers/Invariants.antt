@@ -1,5 +1,5 @@
 use Rattle.graph_meaning.specs.Standing.{triggers_of}
-use Rattle.ematch_cli.specs.Names.{names_of}
+use Rattle.em_printing.specs.Names.{names_of}
 use Rattle.ematch_cli.specs.Listing.{IsTriggerListing}
 use Rattle.ematch_cli.proofs.Texts.{IsUnderWay}
 use Rattle.ematch_cli.proofs.listing.push_triggers.Given as goal

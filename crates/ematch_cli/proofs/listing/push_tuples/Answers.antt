@@ -1,8 +1,8 @@
 use Rattle.std.proofs.Common.{List, ℕ, subst, refl, arith}
 use Rattle.std.proofs.lemmas.Option.{slice_get_read}
-use Rattle.ematch_cli.specs.Names.{names_of}
+use Rattle.em_printing.specs.Names.{names_of}
 use Rattle.ematch_cli.specs.Listing.{IsTupleLine}
-use Rattle.ematch_cli.specs.Writing.{Puts}
+use Rattle.em_printing.specs.Writing.{Puts}
 use Rattle.ematch_cli.proofs.Texts.{under_way_none, under_way_more, under_way_all}
 use Rattle.ematch_cli.proofs.listing.push_tuples.Goals as goal
 

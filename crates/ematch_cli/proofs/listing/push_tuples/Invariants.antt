@@ -1,4 +1,4 @@
-use Rattle.ematch_cli.specs.Names.{names_of}
+use Rattle.em_printing.specs.Names.{names_of}
 use Rattle.ematch_cli.specs.Listing.{IsTupleLine}
 use Rattle.ematch_cli.proofs.Texts.{IsUnderWay}
 use Rattle.ematch_cli.proofs.listing.push_tuples.Given as goal

@@ -16,14 +16,15 @@ use Rattle.ematch_cli.proofs.script.answer_all.Goals as goal
 
 pub loop-tree-init : goal.loop-tree-init
 loop-tree-init g c =
+    let task = c.args.task in
     let limits = c.args.limits.now in
     let left = g.I.Source.left c.args.input.now in
     let written = g.O.Sink.written c.args.out.now in
     record {
-      reached = subst (λ (now : RunState). Reached limits left left written written now (ahead c.args.reader.now))
+      reached = subst (λ (now : RunState). Reached task limits left left written written now (ahead c.args.reader.now))
           (sym (ap (λ (s : State). run_state s c.args.stack.now) c.requires.session ∙ ap (λ (s : Assertions). run_state (at_start limits) s) c.requires.stack))
-          (subst (λ (reader : Reading). Reached limits left left written written (opening limits) (ahead reader)) (sym c.requires.reader)
-          (reached_start c.session_law.ensures.keeps limits left written (c.session_law.ensures.starts limits)));
+          (subst (λ (reader : Reading). Reached task limits left left written written (opening limits) (ahead reader)) (sym c.requires.reader)
+          (reached_start c.session_law.ensures.keeps task limits left written (c.session_law.ensures.starts limits)));
       no_fault = ap (λ (r : Reading). r.fault) c.requires.reader;
       limits = ap (λ (r : Reading). r.limits) c.requires.reader;
       input_later = omega (arith);
@@ -36,7 +37,7 @@ pub returns-then-not-write_text-clause-answers : goal.returns-then-not-write_tex
 returns-then-not-write_text-clause-answers g c =
     let read = rw c.in-Ok-Some.field-0-is at c.in-Ok-Some.ensures in
     let reply = c.in-Ok.ensures.ok in
-    write_fault c.args.limits.now (g.I.Source.left c.args.input.now) (g.I.Source.left c.loop-tree.input) (g.I.Source.left c.next_tree.new.source) (g.O.Sink.written c.args.out.now) (g.O.Sink.written c.loop-tree.out) (g.O.Sink.written c.write_text.new.out)
+    write_fault c.args.task c.args.limits.now (g.I.Source.left c.args.input.now) (g.I.Source.left c.loop-tree.input) (g.I.Source.left c.next_tree.new.source) (g.O.Sink.written c.args.out.now) (g.O.Sink.written c.loop-tree.out) (g.O.Sink.written c.write_text.new.out)
     (run_state c.loop-tree.session c.loop-tree.stack) c.loop-tree.reader c.next_tree.new.self c.loop-tree.invariant.reached c.in-Ok-Some.tree reply.command (run_state c.answer_command.new.session c.answer_command.new.stack) c.in-Ok.reply.text.items
     (read.reads c.loop-tree.invariant.no_fault) reply.replies
     (subst (λ (text : List ℕ). WroteFront (g.O.Sink.written c.loop-tree.out) (g.O.Sink.written c.write_text.new.out) text) c.as_slice.ensures.value c.if-not-write_text.ensures.front.1)
@@ -45,8 +46,8 @@ pub returns-then-reply-clause-answers : goal.returns-then-reply-clause-answers
 returns-then-reply-clause-answers g c =
     let read = rw c.in-Ok-Some.field-0-is at c.in-Ok-Some.ensures in
     let reply = c.in-Ok.ensures.ok in
-    let replies = subst (λ (what : Command). Replies c.args.limits.now (run_state c.loop-tree.session c.loop-tree.stack) c.in-Ok-Some.tree what (run_state c.answer_command.new.session c.answer_command.new.stack) c.in-Ok.reply.text.items) (reply.exits.0 c.if-reply.true) reply.replies in
-    exit c.args.limits.now (g.I.Source.left c.args.input.now) (g.I.Source.left c.loop-tree.input) (g.I.Source.left c.next_tree.new.source) (g.O.Sink.written c.args.out.now) (g.O.Sink.written c.loop-tree.out) (g.O.Sink.written c.write_text.new.out)
+    let replies = subst (λ (what : Command). Replies c.args.task c.args.limits.now (run_state c.loop-tree.session c.loop-tree.stack) c.in-Ok-Some.tree what (run_state c.answer_command.new.session c.answer_command.new.stack) c.in-Ok.reply.text.items) (reply.exits.0 c.if-reply.true) reply.replies in
+    exit c.args.task c.args.limits.now (g.I.Source.left c.args.input.now) (g.I.Source.left c.loop-tree.input) (g.I.Source.left c.next_tree.new.source) (g.O.Sink.written c.args.out.now) (g.O.Sink.written c.loop-tree.out) (g.O.Sink.written c.write_text.new.out)
     (run_state c.loop-tree.session c.loop-tree.stack) c.loop-tree.reader c.next_tree.new.self c.loop-tree.invariant.reached c.in-Ok-Some.tree (run_state c.answer_command.new.session c.answer_command.new.stack) c.in-Ok.reply.text.items
     (read.reads c.loop-tree.invariant.no_fault) replies
     (subst (λ (text : List ℕ). Appended (g.O.Sink.written c.loop-tree.out) (g.O.Sink.written c.write_text.new.out) text) c.as_slice.ensures.value c.if-not-write_text.ensures.whole)
@@ -55,7 +56,7 @@ pub returns-in-Err-Refused-clause-answers : goal.returns-in-Err-Refused-clause-a
 returns-in-Err-Refused-clause-answers g c =
     let read = rw c.in-Ok-Some.field-0-is at c.in-Ok-Some.ensures in
     let writes = subst (λ (line : List ℕ). WritesError line (g.O.Sink.written c.loop-tree.out) (g.O.Sink.written c.refuse.new.out) c.refuse.result) c.as_slice-in-Err-Refused.ensures.value c.refuse.ensures.writes in
-    refused_command c.args.limits.now (g.I.Source.left c.args.input.now) (g.I.Source.left c.loop-tree.input) (g.I.Source.left c.next_tree.new.source) (g.O.Sink.written c.args.out.now) (g.O.Sink.written c.loop-tree.out) (g.O.Sink.written c.refuse.new.out)
+    refused_command c.args.task c.args.limits.now (g.I.Source.left c.args.input.now) (g.I.Source.left c.loop-tree.input) (g.I.Source.left c.next_tree.new.source) (g.O.Sink.written c.args.out.now) (g.O.Sink.written c.loop-tree.out) (g.O.Sink.written c.refuse.new.out)
     (run_state c.loop-tree.session c.loop-tree.stack) c.loop-tree.reader c.next_tree.new.self c.loop-tree.invariant.reached c.in-Ok-Some.tree c.in-Err-Refused.line.items c.refuse.result
     (read.reads c.loop-tree.invariant.no_fault) (rw c.in-Err-Refused.field-0-is at c.in-Err-Refused.ensures.refused)
     (rw c.in-Err-Refused.field-0-is at writes)
@@ -63,7 +64,7 @@ returns-in-Err-Refused-clause-answers g c =
 pub returns-in-Err-Memory-clause-answers : goal.returns-in-Err-Memory-clause-answers
 returns-in-Err-Memory-clause-answers g c =
     let read = rw c.in-Ok-Some.field-0-is at c.in-Ok-Some.ensures in
-    reply_memory c.args.limits.now (g.I.Source.left c.args.input.now) (g.I.Source.left c.loop-tree.input) (g.I.Source.left c.next_tree.new.source) (g.O.Sink.written c.args.out.now) (g.O.Sink.written c.loop-tree.out) (g.O.Sink.written c.loop-tree.out)
+    reply_memory c.args.task c.args.limits.now (g.I.Source.left c.args.input.now) (g.I.Source.left c.loop-tree.input) (g.I.Source.left c.next_tree.new.source) (g.O.Sink.written c.args.out.now) (g.O.Sink.written c.loop-tree.out) (g.O.Sink.written c.loop-tree.out)
     (run_state c.loop-tree.session c.loop-tree.stack) c.loop-tree.reader c.next_tree.new.self c.loop-tree.invariant.reached c.in-Ok-Some.tree (read.reads c.loop-tree.invariant.no_fault)
 
 pub loop-tree-preserved : goal.loop-tree-preserved
@@ -74,7 +75,7 @@ loop-tree-preserved g c =
     let goes : reply.command ≢ Exit = λ same. let yes : c.in-Ok.reply.exits ≡ true = reply.exits.1 same in let no : c.in-Ok.reply.exits ≡ false = c.if-reply.false in absurd (cc) in
     record {
       reached =
-          next c.args.limits.now (g.I.Source.left c.args.input.now) (g.I.Source.left c.loop-tree.input) (g.I.Source.left c.next_tree.new.source) (g.O.Sink.written c.args.out.now) (g.O.Sink.written c.loop-tree.out) (g.O.Sink.written c.write_text.new.out)
+          next c.args.task c.args.limits.now (g.I.Source.left c.args.input.now) (g.I.Source.left c.loop-tree.input) (g.I.Source.left c.next_tree.new.source) (g.O.Sink.written c.args.out.now) (g.O.Sink.written c.loop-tree.out) (g.O.Sink.written c.write_text.new.out)
           (run_state c.loop-tree.session c.loop-tree.stack) c.loop-tree.reader c.next_tree.new.self c.loop-tree.invariant.reached c.in-Ok-Some.tree reply.command (run_state c.answer_command.new.session c.answer_command.new.stack) c.in-Ok.reply.text.items
           (read.reads c.loop-tree.invariant.no_fault) goes reply.replies
           (subst (λ (text : List ℕ). Appended (g.O.Sink.written c.loop-tree.out) (g.O.Sink.written c.write_text.new.out) text) c.as_slice.ensures.value c.if-not-write_text.ensures.whole);
@@ -89,17 +90,17 @@ loop-tree-preserved g c =
 pub returns-in-Ok-None-clause-answers : goal.returns-in-Ok-None-clause-answers
 returns-in-Ok-None-clause-answers g c =
     let read = rw c.in-Ok-None.field-0-is at c.in-Ok-None.ensures in
-    done c.args.limits.now (g.I.Source.left c.args.input.now) (g.I.Source.left c.loop-tree.input) (g.I.Source.left c.next_tree.new.source) (g.O.Sink.written c.args.out.now) (g.O.Sink.written c.loop-tree.out) (g.O.Sink.written c.loop-tree.out)
+    done c.args.task c.args.limits.now (g.I.Source.left c.args.input.now) (g.I.Source.left c.loop-tree.input) (g.I.Source.left c.next_tree.new.source) (g.O.Sink.written c.args.out.now) (g.O.Sink.written c.loop-tree.out) (g.O.Sink.written c.loop-tree.out)
     (run_state c.loop-tree.session c.loop-tree.stack) c.loop-tree.reader c.next_tree.new.self c.loop-tree.invariant.reached (read.reads c.loop-tree.invariant.no_fault)
 
 pub returns-in-Some-clause-answers : goal.returns-in-Some-clause-answers
 returns-in-Some-clause-answers g c =
-    refused_bytes c.args.limits.now (g.I.Source.left c.args.input.now) (g.I.Source.left c.loop-tree.input) (g.I.Source.left c.next_tree.new.source) (g.O.Sink.written c.args.out.now) (g.O.Sink.written c.loop-tree.out) (g.O.Sink.written c.refuse_bytes.new.out)
+    refused_bytes c.args.task c.args.limits.now (g.I.Source.left c.args.input.now) (g.I.Source.left c.loop-tree.input) (g.I.Source.left c.next_tree.new.source) (g.O.Sink.written c.args.out.now) (g.O.Sink.written c.loop-tree.out) (g.O.Sink.written c.refuse_bytes.new.out)
     (run_state c.loop-tree.session c.loop-tree.stack) c.loop-tree.reader c.next_tree.new.self c.loop-tree.invariant.reached c.in-Err.fault c.in-Some.byte c.refuse_bytes.result
     (sym c.in_bytes.ensures ∙ c.in-Some.is) (c.in-Err.ensures.reads c.loop-tree.invariant.no_fault) c.refuse_bytes.ensures.writes
 
 pub returns-in-None-clause-answers : goal.returns-in-None-clause-answers
 returns-in-None-clause-answers g c =
-    subst (λ s. Answers c.args.limits.now (g.I.Source.left c.args.input.now) (g.I.Source.left c.next_tree.new.source) (g.O.Sink.written c.args.out.now) (g.O.Sink.written c.loop-tree.out) s) (sym c.outside.ensures.is)
-    (outside c.args.limits.now (g.I.Source.left c.args.input.now) (g.I.Source.left c.loop-tree.input) (g.I.Source.left c.next_tree.new.source) (g.O.Sink.written c.args.out.now) (g.O.Sink.written c.loop-tree.out) (g.O.Sink.written c.loop-tree.out)
+    subst (λ s. Answers c.args.task c.args.limits.now (g.I.Source.left c.args.input.now) (g.I.Source.left c.next_tree.new.source) (g.O.Sink.written c.args.out.now) (g.O.Sink.written c.loop-tree.out) s) (sym c.outside.ensures.is)
+    (outside c.args.task c.args.limits.now (g.I.Source.left c.args.input.now) (g.I.Source.left c.loop-tree.input) (g.I.Source.left c.next_tree.new.source) (g.O.Sink.written c.args.out.now) (g.O.Sink.written c.loop-tree.out) (g.O.Sink.written c.loop-tree.out)
     (run_state c.loop-tree.session c.loop-tree.stack) c.loop-tree.reader c.next_tree.new.self c.loop-tree.invariant.reached c.in-Err.fault (sym c.in_bytes.ensures ∙ c.in-None.is) (c.in-Err.ensures.reads c.loop-tree.invariant.no_fault))

@@ -1,7 +1,7 @@
 use Rattle.std.proofs.Common.{◌-◌, ◌<◌, drop}
 use Rattle.graph_meaning.specs.Standing.{terms_of}
-use Rattle.ematch_cli.proofs.TreeSizes.{AreCounted}
-use Rattle.ematch_cli.proofs.printed.+left_after.Given as goal
+use Rattle.em_printing.proofs.TreeSizes.{AreCounted}
+use Rattle.em_printing.proofs.printed.+left_after.Given as goal
 
 abbrev pub decreases-left_after : goal.decreases-left_after
 decreases-left_after g l = l.most

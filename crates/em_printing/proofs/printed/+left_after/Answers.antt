@@ -1,7 +1,7 @@
 use Rattle.std.proofs.Common.{◌-◌, arith}
 use Rattle.graph_meaning.specs.Standing.{terms_of}
-use Rattle.ematch_cli.proofs.TreeSizes.{not_none, counted_none, counted_more, too_many, all_counted}
-use Rattle.ematch_cli.proofs.printed.+left_after.Goals as goal
+use Rattle.em_printing.proofs.TreeSizes.{not_none, counted_none, counted_more, too_many, all_counted}
+use Rattle.em_printing.proofs.printed.+left_after.Goals as goal
 
 pub returns-then-most-eq0 : goal.returns-then-most-eq0
 returns-then-most-eq0 g t c = not_none (terms_of (g.G.ClassGraph.standing c.args.graph.now)) c.args.term c.args.most c.if-most-eq0.true

@@ -1,10 +1,10 @@
 use Rattle.std.proofs.Common.{◌++◌, ◌∷◌, [], ap, ◌∙◌, arith}
 use Rattle.graph_meaning.specs.Standing.{terms_of}
-use Rattle.ematch_cli.specs.Names.{names_of}
-use Rattle.ematch_cli.specs.Printed.{symbol_text}
-use Rattle.ematch_cli.proofs.TreeSizes.{earlier_arg}
-use Rattle.ematch_cli.proofs.Texts.{put_two, constant_text, application_text, one_more, no_more}
-use Rattle.ematch_cli.proofs.printed.+push_term.Goals as goal
+use Rattle.em_printing.specs.Names.{names_of}
+use Rattle.em_printing.specs.Printed.{symbol_text}
+use Rattle.em_printing.proofs.TreeSizes.{earlier_arg}
+use Rattle.em_printing.proofs.Texts.{put_two, constant_text, application_text, one_more, no_more}
+use Rattle.em_printing.proofs.printed.+push_term.Goals as goal
 
 pub returns-then-len-eq0 : goal.returns-then-len-eq0
 returns-then-len-eq0 g t c =

@@ -1,8 +1,8 @@
 use Rattle.std.proofs.Common.{◌≡◌, ℕ, List, [], ◌∷◌, ◌++◌, drop}
 use Rattle.graph_meaning.specs.Standing.{terms_of}
-use Rattle.ematch_cli.specs.Names.{names_of}
-use Rattle.ematch_cli.specs.Printed.{IsTermText, AreTermTexts}
-use Rattle.ematch_cli.proofs.printed.+push_term.Given as goal
+use Rattle.em_printing.specs.Names.{names_of}
+use Rattle.em_printing.specs.Printed.{IsTermText, AreTermTexts}
+use Rattle.em_printing.proofs.printed.+push_term.Given as goal
 
 abbrev pub decreases-push_term : goal.decreases-push_term
 decreases-push_term g l = l.term

@@ -1,10 +1,10 @@
 use Rattle.std.proofs.Common.{◌++◌, ◌∷◌, [], ap, ◌∙◌, arith}
 use Rattle.std.specs.Fmt.{decimal}
 use Rattle.graph_meaning.specs.Standing.{terms_of}
-use Rattle.ematch_cli.specs.Printed.{whole, numbered}
-use Rattle.ematch_cli.proofs.TreeSizes.{has_size}
-use Rattle.ematch_cli.proofs.Texts.{put_two}
-use Rattle.ematch_cli.proofs.printed.push_printed.Goals as goal
+use Rattle.em_printing.specs.Printed.{whole, numbered}
+use Rattle.em_printing.proofs.TreeSizes.{has_size}
+use Rattle.em_printing.proofs.Texts.{put_two}
+use Rattle.em_printing.proofs.printed.push_printed.Goals as goal
 
 pub returns-in_ok-push_term-in-Some : goal.returns-in_ok-push_term-in-Some
 returns-in_ok-push_term-in-Some g c =

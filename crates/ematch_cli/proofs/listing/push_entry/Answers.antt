@@ -1,6 +1,6 @@
 use Rattle.std.proofs.Common.{◌∷◌, [], refl}
 use Rattle.ematch_cli.proofs.Texts.{put_two}
-use Rattle.ematch_cli.proofs.printed.push_entry.Goals as goal
+use Rattle.ematch_cli.proofs.listing.push_entry.Goals as goal
 
 pub returns : goal.returns
 returns g c =

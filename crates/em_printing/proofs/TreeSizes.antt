@@ -6,13 +6,8 @@ use Rattle.std.proofs.lemmas.List.Elements.{All-get_or, All-head, All-tail}
 use Rattle.std.proofs.lemmas.Option.{slice_get_within, slice_get-get_or, get_or_from_slice_get}
 use Rattle.graph_terms.specs.declared.term_row.TermRow.{TermRow}
 use Rattle.graph_terms.specs.Terms.{term_row, HasRow, IsTable}
-use Rattle.ematch_cli.specs.Printed.{HasTreeSize, tree, HaveTreeSize, sizes_none, sizes_more}
-
--- a term has one row
-pub args_once : (rows : List TermRow) (term f g : ℕ) (xs ys : List ℕ) → HasRow rows term (term_row f xs) → HasRow rows term (term_row g ys) → xs ≡ ys
-args_once rows term f g xs ys one other =
-    let same_row : term_row f xs ≡ term_row g ys = cc in
-    ap (λ (row : TermRow). row.args) same_row
+use Rattle.em_printing.specs.Printed.{HasTreeSize, tree, HaveTreeSize, sizes_none, sizes_more}
+use Rattle.em_printing.specs.PrintedLaws.{args_once, size_once, sizes_once}
 
 -- an argument is an earlier term
 pub earlier_arg : (rows : List TermRow) (term : ℕ) (row : TermRow) (i x : ℕ) → IsTable rows → HasRow rows term row → slice_get row.args i ≡ Some x → x < term
@@ -20,19 +15,9 @@ earlier_arg rows term row i x table has at =
     let P : ℕ → Type 0 = λ arg. arg < term in
     subst P (get_or_from_slice_get row.args i x 0 at) (All-get_or P row.args i 0 (slice_get_within row.args i x at) (table.earlier term row has))
 
--- what is left of a list at a place begins with what stands there
+-- what is left of a list at an index begins with what stands there
 pub drop_at : {A : Type 0} (xs : List A) (i : ℕ) (x : A) → slice_get xs i ≡ Some x → drop i xs ≡ x ∷ drop (i + 1) xs
 drop_at {A} xs i x at = drop_more xs i x (slice_get_within xs i x at) ∙ ap (λ (y : A). y ∷ drop (i + 1) xs) (get_or_from_slice_get xs i x x at)
-
-mutual
-  -- a term has one size
-  pub size_once : {rows : List TermRow} {term a b : ℕ} → HasTreeSize rows term a → HasTreeSize rows term b → a ≡ b
-  size_once {rows} {term} (tree {symbol = f} {args = xs} has sizes) (tree {symbol = g} {size = m} {args = ys} has' sizes') =
-      ap (λ (k : ℕ). k + 1) (sizes_once sizes (subst (λ (zs : List ℕ). HaveTreeSize rows zs m) (args_once rows term g f ys xs has' has) sizes'))
-
-  pub sizes_once : {rows : List TermRow} {terms : List ℕ} {a b : ℕ} → HaveTreeSize rows terms a → HaveTreeSize rows terms b → a ≡ b
-  sizes_once sizes_none sizes_none = refl
-  sizes_once (sizes_more size sizes) (sizes_more size' sizes') = ap₂ (λ (m n : ℕ). m + n) (size_once size size') (sizes_once sizes sizes')
 
 -- a size by the sizes of the arguments
 args_size : (rows : List TermRow) (term : ℕ) (row : TermRow) (size : ℕ) → HasRow rows term row → HasTreeSize rows term size → (n : ℕ) × HaveTreeSize rows row.args n × (size ≡ n + 1)

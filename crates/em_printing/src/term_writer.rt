@@ -1,22 +1,25 @@
 //! Writes a term to a sink.
 ghost use Rattle.std.specs.Prelude.{◌≡◌, ◌<◌, length, List, ℕ, OnOk, IfErr};
 ghost use Rattle.graph_meaning.specs.Standing.{terms_of};
-ghost use Rattle.ematch_cli.specs.Names.{names_of};
-ghost use Rattle.ematch_cli.specs.Printed.{IsPrinted};
-ghost use Rattle.ematch_cli.specs.WritesTerm.{WritesText, StopsText};
+ghost use Rattle.em_printing.specs.Names.{names_of};
+ghost use Rattle.em_printing.specs.Printed.{IsPrinted};
+ghost use Rattle.em_printing.specs.WritesTerm.{WritesText, StopsText};
 
 use crate::printed::push_printed;
 use em_outside::{Sink, write_all};
 use graph_meaning::ClassGraph;
 use smt_commands::Session;
 use std::alloc::Global;
+use thiserror::Error;
 
 /// Why a term was not written whole.
-#[derive(Clone, Copy, Debug, PartialEq, Eq)]
+#[derive(Clone, Copy, Debug, PartialEq, Eq, Error)]
 pub enum TermStop {
     /// The sink failed, after so many bytes.
+    #[error("a write failed after {gone} bytes")]
     Stopped { gone: usize },
     /// Memory was refused. Nothing was written.
+    #[error("no memory")]
     Memory,
 }
 

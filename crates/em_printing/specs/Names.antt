@@ -3,7 +3,8 @@ use Rattle.std.specs.Prelude.{ℕ, List, [], unwrap_or, codes, ◌==◌, if◌th
 use Rattle.smt_names.specs.Names.{State}
 use Rattle.smt_commands.specs.Commands.{symbol_name}
 
--- the name by which a symbol is written: those of true and false, and of each declared function; it is empty where none is declared
+-- the name by which a symbol is written: those of true and false, and of each declared function; it is empty where
+-- none is declared
 abbrev pub names_of : State → ℕ → List ℕ
 names_of state symbol =
     if symbol == 0 then codes "true" else

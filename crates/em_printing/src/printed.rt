@@ -1,9 +1,9 @@
 //! Terms as text, put behind what was written before.
 ghost use Rattle.std.specs.Prelude.{◌≡◌, ◌≤◌, ◌<◌, ◌-◌, ◌++◌, ℕ, length, decimal, MatchOption, OnOk};
 ghost use Rattle.graph_meaning.specs.Standing.{terms_of};
-ghost use Rattle.ematch_cli.specs.Names.{names_of};
-ghost use Rattle.ematch_cli.specs.Printed.{symbol_text, HasTreeSize, IsTermText, IsPrinted, IsEntry};
-ghost use Rattle.ematch_cli.specs.Writing.{Puts};
+ghost use Rattle.em_printing.specs.Names.{names_of};
+ghost use Rattle.em_printing.specs.Printed.{symbol_text, HasTreeSize, IsTermText, IsPrinted};
+ghost use Rattle.em_printing.specs.Writing.{Puts};
 
 use graph_meaning::ClassGraph;
 use itoa::Buffer;
@@ -45,8 +45,8 @@ fn push_symbol(text: &mut Vec<u8>, name: &[u8]) -> Result<(), AllocError>
     Ok(())
 }
 
-/// Writes a number in decimal digits.
-pub(crate) fn push_number(text: &mut Vec<u8>, number: u64) -> Result<(), AllocError>
+/// Writes a number in decimal digits behind the text. `AllocError` comes for want of memory alone.
+pub fn push_number(text: &mut Vec<u8>, number: u64) -> Result<(), AllocError>
     ensures { OnOk result (text.new.items ≡ text.old.items ++ decimal number) }
 {
     let mut buffer = Buffer::new();
@@ -103,8 +103,8 @@ fn push_term<G: ClassGraph>(
     Ok(())
 }
 
-/// Writes a term as it is listed.
-pub(crate) fn push_printed<G: ClassGraph>(
+/// Writes a term behind the text, as the matches list it: see `write_term`. `AllocError` comes for want of memory alone.
+pub fn push_printed<G: ClassGraph>(
     text: &mut Vec<u8>,
     session: &Session,
     graph: &G,
@@ -125,19 +125,4 @@ pub(crate) fn push_printed<G: ClassGraph>(
             Ok(())
         }
     }
-}
-
-/// Writes an entry of a tuple: a blank, and the term as it is listed.
-pub(crate) fn push_entry<G: ClassGraph>(
-    text: &mut Vec<u8>,
-    session: &Session,
-    graph: &G,
-    term: u32,
-) -> Result<(), AllocError>
-    requires { term < length (terms_of (G.standing graph.now)) }
-    ensures { OnOk result (Puts (IsEntry (names_of session.now) (terms_of (G.standing graph.now)) term) text.old.items text.new.items) }
-{
-    text.push(b' ')?;
-    push_printed(text, session, graph, term)?;
-    Ok(())
 }
