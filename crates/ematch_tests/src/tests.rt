@@ -1,6 +1,8 @@
 //! Scripts with their answers.
 ghost use Rattle.em_outside.specs.Limits.{AreLawful};
 
+mod library;
+
 use em_outside::{Failed, Limits, MemSink, MemSource, Sink, Source};
 use em_printing::{TermStop, write_term};
 use em_words::WordsFault;

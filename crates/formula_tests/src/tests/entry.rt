@@ -7,7 +7,7 @@ use std::alloc::Global;
 use std::test::Fail;
 
 /// The atom of a constant.
-fn atom(alloc: Global) -> Result<Formula, DraftFault> {
+pub fn atom(alloc: Global) -> Result<Formula, DraftFault> {
     let mut draft = FormulaDraft::new(alloc, 4, 4);
     let args = Numbers::from_slice(alloc, &[])?;
     let row = draft.row(DraftRow::App { symbol: 7, args })?;
