@@ -8,9 +8,12 @@ mutual
   -- to assert a node: where it is asserted nothing happens, and else it holds, and then its conjuncts are asserted
   pub data Asserts (formulas : Formulas) : ℕ → Held → Held → Type 0 where
     stands : {n : ℕ} {before : Held} → Contains before.asserted n → Asserts formulas n before before
-    holds : {n : ℕ} {node : Node} {before after : Held} → (Contains before.asserted n → ⊥) → slice_get formulas.nodes n ≡ Some node → AssertsAll formulas (conjuncts_of node) (holding formulas n node before) after → Asserts formulas n before after
+    holds : {n : ℕ} {node : Node} {before after : Held} → (Contains before.asserted n → ⊥) →
+        slice_get formulas.nodes n ≡ Some node → AssertsAll formulas (conjuncts_of node)
+        (holding formulas n node before) after → Asserts formulas n before after
 
   -- to assert some nodes, in order
   pub data AssertsAll (formulas : Formulas) : List ℕ → Held → Held → Type 0 where
     none : {before : Held} → AssertsAll formulas [] before before
-    more : {n : ℕ} {ns : List ℕ} {before between after : Held} → Asserts formulas n before between → AssertsAll formulas ns between after → AssertsAll formulas (n ∷ ns) before after
+    more : {n : ℕ} {ns : List ℕ} {before between after : Held} → Asserts formulas n before between →
+        AssertsAll formulas ns between after → AssertsAll formulas (n ∷ ns) before after

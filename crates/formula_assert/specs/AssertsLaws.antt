@@ -16,16 +16,21 @@ use Rattle.formula_assert.specs.Asserts.{Asserts, AssertsAll, stands, holds, non
 
 module _ (formulas : Formulas) where
   mutual
-    pub asserts_once : {n : ℕ} {before one other : Held} → Asserts formulas n before one → Asserts formulas n before other → one ≡ other
+    pub asserts_once : {n : ℕ} {before one other : Held} → Asserts formulas n before one →
+        Asserts formulas n before other → one ≡ other
     asserts_once (stands is) (stands is') = refl
     asserts_once (stands is) (holds not at all) = absurd (not is)
     asserts_once (holds not at all) (stands is) = absurd (not is)
-    asserts_once {n = n} {before = before} {other = other} (holds {node = node} not at all) (holds {node = node'} not' at' all') =
-        all_once all (subst (λ (x : Node). AssertsAll formulas (conjuncts_of x) (holding formulas n x before) other) (same_Some node' node (sym at' ∙ at)) all')
+    asserts_once {n = n} {before = before} {other = other} (holds {node = node} not at all)
+        (holds {node = node'} not' at' all') =
+        all_once all (subst (λ (x : Node). AssertsAll formulas (conjuncts_of x) (holding formulas n x before) other)
+            (same_Some node' node (sym at' ∙ at)) all')
 
-    all_once : {ns : List ℕ} {before one other : Held} → AssertsAll formulas ns before one → AssertsAll formulas ns before other → one ≡ other
+    all_once : {ns : List ℕ} {before one other : Held} → AssertsAll formulas ns before one →
+        AssertsAll formulas ns before other → one ≡ other
     all_once none none = refl
-    all_once {other = other} (more {ns = ns} first rest) (more first' rest') = all_once rest (subst (λ (b : Held). AssertsAll formulas ns b other) (sym (asserts_once first first')) rest')
+    all_once {other = other} (more {ns = ns} first rest) (more first' rest') = all_once rest
+        (subst (λ (b : Held). AssertsAll formulas ns b other) (sym (asserts_once first first')) rest')
 
 -- the later graph has the terms of the earlier one, and so had what stood before the last level
 pub record KeepsTerms (before after : GraphState) : Type 0 where
@@ -37,7 +42,8 @@ keeps_none : (graph : GraphState) → KeepsTerms graph graph
 keeps_none graph = record { terms = refl; last = refl }
 
 -- one after another
-keeps_both : (first second third : GraphState) → KeepsTerms first second → KeepsTerms second third → KeepsTerms first third
+keeps_both : (first second third : GraphState) → KeepsTerms first second → KeepsTerms second third →
+    KeepsTerms first third
 keeps_both first second third one two = record { terms = two.terms ∙ one.terms; last = two.last ∙ one.last }
 
 -- an equation
@@ -65,11 +71,13 @@ keeps_live graph trigger = record {
 keeps_all_live : (graph : GraphState) (triggers : List Trigger) → KeepsTerms graph (replay graph (map Live triggers))
 keeps_all_live graph [] = keeps_none graph
 keeps_all_live graph (trigger ∷ triggers) =
-    keeps_both graph (state_after graph (Live trigger)) (replay (state_after graph (Live trigger)) (map Live triggers)) (keeps_live graph trigger) (keeps_all_live (state_after graph (Live trigger)) triggers)
+    keeps_both graph (state_after graph (Live trigger)) (replay (state_after graph (Live trigger))
+        (map Live triggers)) (keeps_live graph trigger) (keeps_all_live (state_after graph (Live trigger)) triggers)
 
 module _ (formulas : Formulas) where
   -- what a node stands for by itself adds no terms
-  keeps_operations : (graph : GraphState) (node : Node) → KeepsTerms graph (replay graph (operations_of formulas node))
+  keeps_operations : (graph : GraphState) (node : Node) →
+      KeepsTerms graph (replay graph (operations_of formulas node))
   keeps_operations graph (Equal true left right) = keeps_merge graph left right
   keeps_operations graph (Equal false left right) = keeps_differ graph left right
   keeps_operations graph (Atom true term) = keeps_merge graph term 0
@@ -80,11 +88,15 @@ module _ (formulas : Formulas) where
 
   mutual
     -- to assert a node adds no terms
-    pub asserts_terms : {n : ℕ} {before after : Held} → Asserts formulas n before after → KeepsTerms before.graph after.graph
+    pub asserts_terms : {n : ℕ} {before after : Held} → Asserts formulas n before after →
+        KeepsTerms before.graph after.graph
     asserts_terms {before = before} (stands is) = keeps_none before.graph
     asserts_terms {before = before} {after = after} (holds {node = node} not at all) =
-        keeps_both before.graph (replay before.graph (operations_of formulas node)) after.graph (keeps_operations before.graph node) (all_terms all)
+        keeps_both before.graph (replay before.graph (operations_of formulas node)) after.graph
+            (keeps_operations before.graph node) (all_terms all)
 
-    all_terms : {ns : List ℕ} {before after : Held} → AssertsAll formulas ns before after → KeepsTerms before.graph after.graph
+    all_terms : {ns : List ℕ} {before after : Held} → AssertsAll formulas ns before after →
+        KeepsTerms before.graph after.graph
     all_terms {before = before} none = keeps_none before.graph
-    all_terms {before = before} {after = after} (more {between = between} first rest) = keeps_both before.graph between.graph after.graph (asserts_terms first) (all_terms rest)
+    all_terms {before = before} {after = after} (more {between = between} first rest) = keeps_both before.graph
+        between.graph after.graph (asserts_terms first) (all_terms rest)

@@ -23,8 +23,8 @@ held graph asserted = record { graph = graph; asserted = asserted }
 abbrev pub triggers_at : List TableForall → ℕ → List Trigger
 triggers_at foralls n = option_map_or (λ forall. forall.triggers) (slice_get foralls n) []
 
--- the operations that a node stands for by itself: an equation merges its terms and a disequation keeps them apart, an atom
--- is merged with true or with false, a forall's triggers become live in order, and a connective does nothing
+-- the operations that a node stands for by itself: an equation merges its terms and a disequation keeps them apart,
+-- an atom is merged with true or with false, a forall's triggers become live in order, and a connective does nothing
 abbrev pub operations_of : Formulas → Node → List Op
 operations_of formulas (Equal true left right) = Merge left right ∷ []
 operations_of formulas (Equal false left right) = Differ left right ∷ []

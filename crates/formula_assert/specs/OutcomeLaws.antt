@@ -1,5 +1,5 @@
--- What stands stays made of tables, and over tables a formula is asserted in one way, and refused in one way but for want of
--- memory.
+-- What stands stays made of tables, and over tables a formula is asserted in one way, and refused in one way but for
+-- want of memory.
 use Rattle.std.proofs.Common.{◌≡◌, ◌≢◌, ℕ, ◌++◌, List, [], ◌∷◌, refl, sym, ap, ap₂, subst, ◌∙◌, append-nil, arith}
 use Rattle.std.specs.List.{before_last}
 use Rattle.std.proofs.lemmas.Option.{none-some}
@@ -16,7 +16,8 @@ use Rattle.graph_terms.specs.Terms.{IsTable}
 use Rattle.formula_draft.specs.Draft.{Formula, IsFormula}
 use Rattle.formula_table.specs.declared.enter_fault.EnterFault.{EnterFault}
 use Rattle.formula_table.specs.declared.enter_fault.EnterFault.TheVariants.{TermsFull, NodesFull, Memory}
-use Rattle.formula_table.specs.EntryLaws.{enters_once-into, full_terms_once, full_terms_not_entered, full_terms_not_lacking, lacking_nodes_once, lacking_nodes_not_entered}
+use Rattle.formula_table.specs.EntryLaws.{enters_once-into, full_terms_once, full_terms_not_entered,
+    full_terms_not_lacking, lacking_nodes_once, lacking_nodes_not_entered}
 use Rattle.formula_table.specs.Formulas.{Formulas, IsFormulaTable, no_formulas}
 use Rattle.formula_table.specs.StandLaws.{stands_after}
 use Rattle.match_graph.specs.GraphTerms.{adding, with_terms}
@@ -31,7 +32,8 @@ use Rattle.formula_assert.specs.Stands.{AreAssertions, AreSaved}
 -- the terms and the formulas were tables when each level was opened
 abbrev pub WereTables : List Done → List Saved → Type 0
 WereTables standing [] = Unit {0}
-WereTables standing (level ∷ saved) = IsTable (terms_of (before_last is_push standing)) × IsFormulaTable level.formulas × WereTables (before_last is_push standing) saved
+WereTables standing (level ∷ saved) = IsTable (terms_of (before_last is_push standing)) ×
+    IsFormulaTable level.formulas × WereTables (before_last is_push standing) saved
 
 -- the terms and the formulas are tables, now and as they stood when each level was opened
 pub record AreTables (now : Assertions) : Type 0 where
@@ -55,24 +57,33 @@ pub tables_at_start : (terms nodes : ℕ) → AreTables (no_assertions terms nod
 tables_at_start terms nodes = record { terms = IsTable-first; formulas = no_formulas_table nodes; saved = tt }
 
 -- what was a table when the levels were opened, where the later graph has the same before its last level
-were_alike : (standing later : List Done) (saved : List Saved) → before_last is_push later ≡ before_last is_push standing → WereTables standing saved → WereTables later saved
+were_alike : (standing later : List Done) (saved : List Saved) →
+    before_last is_push later ≡ before_last is_push standing → WereTables standing saved → WereTables later saved
 were_alike standing later [] same were = tt
-were_alike standing later (level ∷ saved) same were = subst (λ (list : List Done). IsTable (terms_of list) × IsFormulaTable level.formulas × WereTables list saved) (sym same) were
+were_alike standing later (level ∷ saved) same were = subst (λ (list : List Done). IsTable (terms_of list) ×
+    IsFormulaTable level.formulas × WereTables list saved) (sym same) were
 
 -- a level that opens saves tables
-were_opened : (standing : List Done) (serial : ℕ) (level : Saved) (saved : List Saved) → IsTable (terms_of standing) → IsFormulaTable level.formulas → WereTables standing saved → WereTables (then_op standing serial Push) (level ∷ saved)
+were_opened : (standing : List Done) (serial : ℕ) (level : Saved) (saved : List Saved) → IsTable (terms_of standing) →
+    IsFormulaTable level.formulas → WereTables standing saved →
+    WereTables (then_op standing serial Push) (level ∷ saved)
 were_opened standing serial level saved terms formulas were =
-    subst (λ (list : List Done). IsTable (terms_of list) × IsFormulaTable level.formulas × WereTables list saved) (sym (before_last-hit is_push standing (record { serial = serial; op = Push }) refl)) (terms, formulas, were)
+    subst (λ (list : List Done). IsTable (terms_of list) × IsFormulaTable level.formulas ×
+        WereTables list saved) (sym (before_last-hit is_push standing (record { serial = serial; op = Push }) refl))
+        (terms, formulas, were)
 
 -- they are when a level is opened
 pub tables_pushed : (now : Assertions) → AreTables now → AreTables (pushed now)
 tables_pushed now are = record {
-  terms = subst IsTable (sym (terms_of-push now.graph.standing now.graph.done Push ∙ append-nil (terms_of now.graph.standing))) are.terms;
+  terms = subst IsTable (sym (terms_of-push now.graph.standing now.graph.done Push
+      ∙ append-nil (terms_of now.graph.standing))) are.terms;
   formulas = are.formulas;
-  saved = were_opened now.graph.standing now.graph.done (record { formulas = now.formulas; asserted = now.asserted }) now.saved are.terms are.formulas are.saved;
+  saved = were_opened now.graph.standing now.graph.done (record { formulas = now.formulas; asserted = now.asserted })
+      now.saved are.terms are.formulas are.saved;
 }
 
-tables_restored : (now : Assertions) (saved : List Saved) → AreTables now → WereTables now.graph.standing saved → AreTables (restored now saved)
+tables_restored : (now : Assertions) (saved : List Saved) → AreTables now → WereTables now.graph.standing saved →
+    AreTables (restored now saved)
 tables_restored now [] are were = are
 tables_restored now (level ∷ saved) are were = record { terms = were.0; formulas = were.1; saved = were.2 }
 
@@ -81,27 +92,36 @@ pub tables_popped : (now : Assertions) → AreTables now → AreTables (popped n
 tables_popped now are = tables_restored now now.saved are are.saved
 
 -- terms that a graph gains come after what stood before the last level
-last-with_terms : (graph : GraphState) (rows : List TermRow) → before_last is_push (with_terms graph rows).standing ≡ before_last is_push graph.standing
+last-with_terms : (graph : GraphState) (rows : List TermRow) →
+    before_last is_push (with_terms graph rows).standing ≡ before_last is_push graph.standing
 last-with_terms graph [] = refl
 last-with_terms graph (row ∷ rows) =
-    last-with_terms (state_after graph (adding row)) rows ∙ before_last-miss is_push graph.standing (record { serial = graph.done; op = adding row }) refl
+    last-with_terms (state_after graph (adding row)) rows
+        ∙ before_last-miss is_push graph.standing (record { serial = graph.done; op = adding row }) refl
 
 -- they are when a formula is asserted
-pub tables_asserted : (formula : Formula) (before after : Assertions) → IsFormula formula → AreTables before → AssertsFormula formula before after → AreTables after
+pub tables_asserted : (formula : Formula) (before after : Assertions) → IsFormula formula → AreTables before →
+    AssertsFormula formula before after → AreTables after
 tables_asserted formula before after is are asserts =
     let added = asserts.enters.rows_grow.added in
     let grew : asserts.entered ≡ with_terms before.graph added = asserts.enters.rows_grow.grew in
-    let all = stands_after (λ more. asserts.entered ≡ with_terms before.graph more) formula is (terms_of before.graph.standing) before.graph.limit before.formulas after.formulas asserts.root asserts.enters in
+    let all = stands_after (λ more. asserts.entered ≡ with_terms before.graph more) formula is
+        (terms_of before.graph.standing) before.graph.limit before.formulas after.formulas asserts.root asserts.enters
+        in
     let kept = asserts_terms after.formulas asserts.asserts in
-    let terms : terms_of after.graph.standing ≡ terms_of before.graph.standing ++ added = kept.terms ∙ ap (λ (graph : GraphState). terms_of graph.standing) grew ∙ terms-with_terms before.graph added in
-    let last : before_last is_push after.graph.standing ≡ before_last is_push before.graph.standing = kept.last ∙ ap (λ (graph : GraphState). before_last is_push graph.standing) grew ∙ last-with_terms before.graph added in
+    let terms : terms_of after.graph.standing ≡ terms_of before.graph.standing ++ added = kept.terms
+        ∙ ap (λ (graph : GraphState). terms_of graph.standing) grew ∙ terms-with_terms before.graph added in
+    let last : before_last is_push after.graph.standing ≡ before_last is_push before.graph.standing = kept.last
+        ∙ ap (λ (graph : GraphState). before_last is_push graph.standing) grew ∙ last-with_terms before.graph added in
     record {
       terms = subst IsTable (sym terms) (all.rows_stand are.terms);
       formulas = all.formulas_stand are.formulas;
-      saved = subst (WereTables after.graph.standing) (sym asserts.saved_is) (were_alike before.graph.standing after.graph.standing before.saved last are.saved);
+      saved = subst (WereTables after.graph.standing) (sym asserts.saved_is)
+          (were_alike before.graph.standing after.graph.standing before.saved last are.saved);
     }
 
-were_lawful : (standing : List Done) (saved : List Saved) → IsLawful standing → AreSaved standing saved → WereTables standing saved
+were_lawful : (standing : List Done) (saved : List Saved) → IsLawful standing → AreSaved standing saved →
+    WereTables standing saved
 were_lawful standing [] lawful are = tt
 were_lawful standing (level ∷ saved) lawful are =
     let before : IsLawful (before_last is_push standing) = IsLawful-take _ standing lawful in
@@ -109,60 +129,92 @@ were_lawful standing (level ∷ saved) lawful are =
 
 -- they are in what a stack holds
 pub tables_stand : (now : Assertions) → AreAssertions now → AreTables now
-tables_stand now are = record { terms = are.lawful.whole.table; formulas = are.formulas.table; saved = were_lawful now.graph.standing now.saved are.lawful are.saved }
+tables_stand now are = record { terms = are.lawful.whole.table; formulas = are.formulas.table;
+    saved = were_lawful now.graph.standing now.saved are.lawful are.saved }
 
 abbrev all_of : Held → Formulas → List Saved → Assertions
 all_of now formulas saved = record { graph = now.graph; formulas = formulas; asserted = now.asserted; saved = saved }
 
-same_all : (one other : Assertions) → held_of one ≡ held_of other → one.formulas ≡ other.formulas → one.saved ≡ other.saved → one ≡ other
+same_all : (one other : Assertions) → held_of one ≡ held_of other → one.formulas ≡ other.formulas →
+    one.saved ≡ other.saved → one ≡ other
 same_all one other holds formulas saved =
-    ap (λ (now : Held). all_of now one.formulas one.saved) holds ∙ ap (λ (table : Formulas). all_of (held_of other) table one.saved) formulas ∙ ap (all_of (held_of other) other.formulas) saved
+    ap (λ (now : Held). all_of now one.formulas one.saved) holds
+        ∙ ap (λ (table : Formulas). all_of (held_of other) table one.saved) formulas
+        ∙ ap (all_of (held_of other) other.formulas) saved
 
 -- a formula is asserted in one way
-pub asserts_formula_once : (formula : Formula) (before one other : Assertions) → IsFormula formula → AreTables before → AssertsFormula formula before one → AssertsFormula formula before other → one ≡ other
+pub asserts_formula_once : (formula : Formula) (before one other : Assertions) → IsFormula formula →
+    AreTables before → AssertsFormula formula before one → AssertsFormula formula before other → one ≡ other
 asserts_formula_once formula before one other is are first second =
-    let entry = enters_once-into (with_terms before.graph) first.entered second.entered formula is (terms_of before.graph.standing) are.terms before.graph.limit before.formulas are.formulas one.formulas other.formulas first.root second.root first.enters second.enters in
+    let entry = enters_once-into (with_terms before.graph) first.entered second.entered formula is
+        (terms_of before.graph.standing) are.terms before.graph.limit before.formulas are.formulas one.formulas
+        other.formulas first.root second.root first.enters second.enters in
     let moved : Asserts one.formulas first.root (held first.entered before.asserted) (held_of other) =
-    subst (λ (table : Formulas). Asserts table first.root (held first.entered before.asserted) (held_of other)) (sym entry.1)
+    subst (λ (table : Formulas). Asserts table first.root (held first.entered before.asserted) (held_of other))
+        (sym entry.1)
     (subst (λ (n : ℕ). Asserts other.formulas n (held first.entered before.asserted) (held_of other)) (sym entry.2)
-    (subst (λ (graph : GraphState). Asserts other.formulas second.root (held graph before.asserted) (held_of other)) (sym entry.0) second.asserts)) in
+    (subst (λ (graph : GraphState). Asserts other.formulas second.root (held graph before.asserted) (held_of other))
+        (sym entry.0) second.asserts)) in
     same_all one other (asserts_once one.formulas first.asserts moved) entry.1 (first.saved_is ∙ sym second.saved_is)
 
 -- and then there was room for its terms
-pub full_terms_not_asserted : (formula : Formula) (before one other : Assertions) → IsFormula formula → AreTables before → AssertsFormula formula before one → StopsAssert formula before other TermsFull → ⊥
+pub full_terms_not_asserted : (formula : Formula) (before one other : Assertions) → IsFormula formula →
+    AreTables before → AssertsFormula formula before one → StopsAssert formula before other TermsFull → ⊥
 full_terms_not_asserted formula before one other is are asserts stops =
-    full_terms_not_entered (λ more. other.graph ≡ with_terms before.graph more) (λ more. asserts.entered ≡ with_terms before.graph more) formula is (terms_of before.graph.standing) are.terms before.graph.limit before.formulas are.formulas one.formulas asserts.root stops.0 asserts.enters
+    full_terms_not_entered (λ more. other.graph ≡ with_terms before.graph more) (λ more. asserts.entered
+        ≡ with_terms before.graph more) formula is (terms_of before.graph.standing) are.terms before.graph.limit
+        before.formulas are.formulas one.formulas asserts.root stops.0 asserts.enters
 
 -- and for its nodes
-pub lacking_nodes_not_asserted : (formula : Formula) (before one other : Assertions) → IsFormula formula → AreTables before → AssertsFormula formula before one → StopsAssert formula before other NodesFull → ⊥
+pub lacking_nodes_not_asserted : (formula : Formula) (before one other : Assertions) → IsFormula formula →
+    AreTables before → AssertsFormula formula before one → StopsAssert formula before other NodesFull → ⊥
 lacking_nodes_not_asserted formula before one other is are asserts stops =
-    lacking_nodes_not_entered (λ more. other.graph ≡ with_terms before.graph more) (λ more. asserts.entered ≡ with_terms before.graph more) formula is (terms_of before.graph.standing) are.terms before.graph.limit before.formulas are.formulas one.formulas asserts.root stops.0 asserts.enters
+    lacking_nodes_not_entered (λ more. other.graph ≡ with_terms before.graph more) (λ more. asserts.entered
+        ≡ with_terms before.graph more) formula is (terms_of before.graph.standing) are.terms before.graph.limit
+        before.formulas are.formulas one.formulas asserts.root stops.0 asserts.enters
 
 -- where there is no room for its terms, it does not come to its nodes
-pub full_terms_not_lacking_nodes : (formula : Formula) (before one other : Assertions) → IsFormula formula → AreTables before → StopsAssert formula before one TermsFull → StopsAssert formula before other NodesFull → ⊥
+pub full_terms_not_lacking_nodes : (formula : Formula) (before one other : Assertions) → IsFormula formula →
+    AreTables before → StopsAssert formula before one TermsFull → StopsAssert formula before other NodesFull → ⊥
 full_terms_not_lacking_nodes formula before one other is are first second =
-    full_terms_not_lacking (λ more. one.graph ≡ with_terms before.graph more) (λ more. other.graph ≡ with_terms before.graph more) formula is (terms_of before.graph.standing) are.terms before.graph.limit before.formulas are.formulas first.0 second.0
+    full_terms_not_lacking (λ more. one.graph ≡ with_terms before.graph more) (λ more. other.graph
+        ≡ with_terms before.graph more) formula is (terms_of before.graph.standing) are.terms before.graph.limit
+        before.formulas are.formulas first.0 second.0
 
 -- a formula that is asserted is not refused, but for want of memory
-pub asserted_not_stopped : (formula : Formula) (before one other : Assertions) (fault : EnterFault) → IsFormula formula → AreTables before → (fault ≢ Memory) → AssertsFormula formula before one → StopsAssert formula before other fault → ⊥
-asserted_not_stopped formula before one other TermsFull is are not asserts stops = full_terms_not_asserted formula before one other is are asserts stops
-asserted_not_stopped formula before one other NodesFull is are not asserts stops = lacking_nodes_not_asserted formula before one other is are asserts stops
+pub asserted_not_stopped : (formula : Formula) (before one other : Assertions) (fault : EnterFault) →
+    IsFormula formula → AreTables before → (fault ≢ Memory) → AssertsFormula formula before one →
+    StopsAssert formula before other fault → ⊥
+asserted_not_stopped formula before one other TermsFull is are not asserts stops = full_terms_not_asserted formula
+    before one other is are asserts stops
+asserted_not_stopped formula before one other NodesFull is are not asserts stops = lacking_nodes_not_asserted formula
+    before one other is are asserts stops
 asserted_not_stopped formula before one other Memory is are not asserts stops = not refl
 
-kept_alike : (before one other : Assertions) → one.graph ≡ other.graph → KeepsFormulas before one → KeepsFormulas before other → one ≡ other
+kept_alike : (before one other : Assertions) → one.graph ≡ other.graph → KeepsFormulas before one →
+    KeepsFormulas before other → one ≡ other
 kept_alike before one other graph first second =
-    same_all one other (ap₂ held graph (first.asserted_are ∙ sym second.asserted_are)) (first.formulas_are ∙ sym second.formulas_are) (first.saved_are ∙ sym second.saved_are)
+    same_all one other (ap₂ held graph (first.asserted_are ∙ sym second.asserted_are)) (first.formulas_are
+        ∙ sym second.formulas_are) (first.saved_are ∙ sym second.saved_are)
 
 -- a formula is refused in one way, but for want of memory
-pub stopped_once : (formula : Formula) (before one other : Assertions) (fault also : EnterFault) → IsFormula formula → AreTables before → (fault ≢ Memory) → (also ≢ Memory) → StopsAssert formula before one fault → StopsAssert formula before other also → (fault ≡ also) × (one ≡ other)
+pub stopped_once : (formula : Formula) (before one other : Assertions) (fault also : EnterFault) → IsFormula formula →
+    AreTables before → (fault ≢ Memory) → (also ≢ Memory) → StopsAssert formula before one fault →
+    StopsAssert formula before other also → (fault ≡ also) × (one ≡ other)
 stopped_once formula before one other TermsFull TermsFull is are not so first second =
-    let both = full_terms_once (λ more. one.graph ≡ with_terms before.graph more) (λ more. other.graph ≡ with_terms before.graph more) formula is (terms_of before.graph.standing) are.terms before.graph.limit before.formulas are.formulas first.0 second.0 in
+    let both = full_terms_once (λ more. one.graph ≡ with_terms before.graph more) (λ more. other.graph
+        ≡ with_terms before.graph more) formula is (terms_of before.graph.standing) are.terms before.graph.limit
+        before.formulas are.formulas first.0 second.0 in
     (refl, kept_alike before one other (both.grew ∙ sym both.also) first.1 second.1)
 stopped_once formula before one other NodesFull NodesFull is are not so first second =
-    let both = lacking_nodes_once (λ more. one.graph ≡ with_terms before.graph more) (λ more. other.graph ≡ with_terms before.graph more) formula is (terms_of before.graph.standing) are.terms before.graph.limit before.formulas are.formulas first.0 second.0 in
+    let both = lacking_nodes_once (λ more. one.graph ≡ with_terms before.graph more) (λ more. other.graph
+        ≡ with_terms before.graph more) formula is (terms_of before.graph.standing) are.terms before.graph.limit
+        before.formulas are.formulas first.0 second.0 in
     (refl, kept_alike before one other (both.grew ∙ sym both.also) first.1 second.1)
-stopped_once formula before one other TermsFull NodesFull is are not so first second = absurd (full_terms_not_lacking_nodes formula before one other is are first second)
-stopped_once formula before one other NodesFull TermsFull is are not so first second = absurd (full_terms_not_lacking_nodes formula before other one is are second first)
+stopped_once formula before one other TermsFull NodesFull is are not so first second = absurd
+    (full_terms_not_lacking_nodes formula before one other is are first second)
+stopped_once formula before one other NodesFull TermsFull is are not so first second = absurd
+    (full_terms_not_lacking_nodes formula before other one is are second first)
 stopped_once formula before one other TermsFull Memory is are not so first second = absurd (so refl)
 stopped_once formula before one other NodesFull Memory is are not so first second = absurd (so refl)
 stopped_once formula before one other Memory also is are not so first second = absurd (not refl)

@@ -10,11 +10,13 @@ use Rattle.formula_assert.specs.Stands.{AreSaved}
 
 -- what stood when the level was opened, of what stands
 abbrev pub saved_of : Formulas → List ℕ → Level → Saved
-saved_of formulas asserted level = record { formulas = first_formulas level.nodes level.foralls formulas; asserted = take level.asserted asserted }
+saved_of formulas asserted level = record { formulas = first_formulas level.nodes level.foralls formulas;
+    asserted = take level.asserted asserted }
 
 -- the assertions with these levels, of which the innermost is the last
 abbrev pub assertions_with : GraphState → Formulas → List ℕ → List Level → Assertions
-assertions_with graph formulas asserted levels = record { graph = graph; formulas = formulas; asserted = asserted; saved = map (saved_of formulas asserted) (reverse levels) }
+assertions_with graph formulas asserted levels = record { graph = graph; formulas = formulas; asserted = asserted;
+    saved = map (saved_of formulas asserted) (reverse levels) }
 
 -- the assertions that the fields hold
 abbrev pub assertions_of : Inside → Assertions
@@ -23,10 +25,12 @@ assertions_of inside = assertions_with inside.graph inside.formulas inside.asser
 -- so many nodes, foralls and asserted nodes stand, and from the innermost level to the outermost ever fewer did
 abbrev pub Fall : ℕ → ℕ → ℕ → List Level → Type 0
 Fall nodes foralls asserted [] = Unit {0}
-Fall nodes foralls asserted (level ∷ levels) = (level.nodes ≤ nodes) × (level.foralls ≤ foralls) × (level.asserted ≤ asserted) × Fall level.nodes level.foralls level.asserted levels
+Fall nodes foralls asserted (level ∷ levels) = (level.nodes ≤ nodes) × (level.foralls ≤ foralls) ×
+    (level.asserted ≤ asserted) × Fall level.nodes level.foralls level.asserted levels
 
 -- the terms of the nodes stand, and so they did in each level
-pub record IsStackOf (graph : GraphState) (formulas : Formulas) (asserted : List ℕ) (levels : List Level) : Type 0 where
+pub record IsStackOf (graph : GraphState) (formulas : Formulas) (asserted : List ℕ) (levels : List Level) : Type 0
+    where
   pub fall : Fall (length formulas.nodes) (length formulas.foralls) (length asserted) (reverse levels)
   pub terms_stand : NodesStand (length (terms_of graph.standing)) formulas.nodes
   pub saved_stand : AreSaved graph.standing (map (saved_of formulas asserted) (reverse levels))

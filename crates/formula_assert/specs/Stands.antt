@@ -15,7 +15,9 @@ pub record IsTableOver (count : ℕ) (formulas : Formulas) : Type 0 where
 -- for each level of the graph formulas were saved, and they are over the terms that stood when it was opened
 abbrev pub AreSaved : List Done → List Saved → Type 0
 AreSaved standing [] = levels_of standing ≡ 0
-AreSaved standing (level ∷ saved) = (levels_of standing ≡ length saved + 1) × IsTableOver (length (terms_of (before_last is_push standing))) level.formulas × AreSaved (before_last is_push standing) saved
+AreSaved standing (level ∷ saved) = (levels_of standing ≡ length saved + 1) ×
+    IsTableOver (length (terms_of (before_last is_push standing))) level.formulas ×
+    AreSaved (before_last is_push standing) saved
 
 -- the graph is lawful, the formulas are over its terms, and so were those of each level
 pub record AreAssertions (now : Assertions) : Type 0 where

@@ -1,5 +1,6 @@
 -- A formula under way: its rows, nodes and foralls, and what holds of them.
-use Rattle.std.specs.Prelude.{◌≡◌, ℕ, ◌<◌, ◌≤◌, List, [], ◌∷◌, ◌++◌, length, slice_get, Option, Some, None, option_map, All}
+use Rattle.std.specs.Prelude.{◌≡◌, ℕ, ◌<◌, ◌≤◌, List, [], ◌∷◌, ◌++◌, length, slice_get, Option, Some, None,
+    option_map, All}
 use Rattle.graph_trigger.specs.declared.trigger.Trigger.{Trigger}
 use Rattle.graph_trigger.specs.Trigger.{IsValid}
 use Rattle.formula_draft.specs.declared.draft_row.DraftRow.{DraftRow}
@@ -24,15 +25,18 @@ pub record Draft : Type 0 where
 
 -- nothing yet
 abbrev pub empty_draft : ℕ → ℕ → Draft
-empty_draft most_rows most_nodes = record { rows = []; nodes = []; foralls = []; most_rows = most_rows; most_nodes = most_nodes }
+empty_draft most_rows most_nodes = record { rows = []; nodes = []; foralls = []; most_rows = most_rows;
+    most_nodes = most_nodes }
 
 -- the number of a row, and the draft with it: it stands, or it is put last, or there is no room for it
 abbrev pub with_row : DraftRow → Draft → Option (ℕ × Draft)
-with_row new draft = option_map (λ (put : ℕ × List DraftRow). (put.0, record draft { rows = put.1 })) (with_item same_row draft.most_rows new draft.rows)
+with_row new draft = option_map (λ (put : ℕ × List DraftRow). (put.0, record draft { rows = put.1 }))
+    (with_item same_row draft.most_rows new draft.rows)
 
 -- the same of a node
 abbrev pub with_node : DraftNode → Draft → Option (ℕ × Draft)
-with_node new draft = option_map (λ (put : ℕ × List DraftNode). (put.0, record draft { nodes = put.1 })) (with_item same_node draft.most_nodes new draft.nodes)
+with_node new draft = option_map (λ (put : ℕ × List DraftNode). (put.0, record draft { nodes = put.1 }))
+    (with_item same_node draft.most_nodes new draft.nodes)
 
 -- a forall of a formula
 abbrev pub draft_forall : ℕ → ℕ → List Trigger → DraftForall
@@ -75,15 +79,18 @@ pub record FitsForall (rows : List DraftRow) (nodes : List DraftNode) (new : Dra
   pub few_variables : new.variables ≤ 32
   pub body_stands : new.body < length nodes
   pub no_forall : (n index : ℕ) → ReachesNode nodes new.body n → slice_get nodes n ≡ Some (Forall index) → ⊥
-  pub below : (row index : ℕ) → ReachesRow rows nodes new.body row → slice_get rows row ≡ Some (Var index) → index < new.variables
+  pub below : (row index : ℕ) → ReachesRow rows nodes new.body row → slice_get rows row ≡ Some (Var index) →
+      index < new.variables
   pub triggers_fit : All (FitsTrigger new.variables) new.triggers
 
 -- rows name earlier rows, nodes name rows, earlier nodes and foralls, none stands twice, and foralls fit
 pub record AreLawful (rows : List DraftRow) (nodes : List DraftNode) (foralls : List DraftForall) : Type 0 where
   pub rows_fit : (n : ℕ) (row : DraftRow) → slice_get rows n ≡ Some row → FitsRow n row
   pub rows_once : (m n : ℕ) (row : DraftRow) → slice_get rows m ≡ Some row → slice_get rows n ≡ Some row → m ≡ n
-  pub nodes_fit : (n : ℕ) (node : DraftNode) → slice_get nodes n ≡ Some node → FitsNode (length rows) n (length foralls) node
-  pub nodes_once : (m n : ℕ) (node : DraftNode) → slice_get nodes m ≡ Some node → slice_get nodes n ≡ Some node → m ≡ n
+  pub nodes_fit : (n : ℕ) (node : DraftNode) → slice_get nodes n ≡ Some node →
+      FitsNode (length rows) n (length foralls) node
+  pub nodes_once : (m n : ℕ) (node : DraftNode) → slice_get nodes m ≡ Some node → slice_get nodes n ≡ Some node →
+      m ≡ n
   pub foralls_fit : (n : ℕ) (forall : DraftForall) → slice_get foralls n ≡ Some forall → FitsForall rows nodes forall
 
 -- a draft is lawful, and within its limits
@@ -105,7 +112,8 @@ finished draft root = record { rows = draft.rows; nodes = draft.nodes; foralls =
 
 -- no variable is reached from the node outside the bodies of foralls
 abbrev pub IsClosed : List DraftRow → List DraftNode → ℕ → Type 0
-IsClosed rows nodes start = (row index : ℕ) → ReachesRow rows nodes start row → slice_get rows row ≡ Some (Var index) → ⊥
+IsClosed rows nodes start = (row index : ℕ) → ReachesRow rows nodes start row →
+    slice_get rows row ≡ Some (Var index) → ⊥
 
 -- a formula is lawful, its root stands, and its variables are those of foralls
 pub record IsFormula (formula : Formula) : Type 0 where

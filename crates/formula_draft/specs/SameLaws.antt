@@ -1,5 +1,6 @@
 -- Rows and nodes are the same where their keys are.
-use Rattle.std.proofs.Common.{◌≡◌, ℕ, zero, suc, ◌+◌, Bool, true, false, cond, ◌&&◌, nat_eq, List, [], ◌∷◌, ◌++◌, get_or, slice_get, Some, None, refl, sym, ap, ap₂, subst, ◌∙◌, ⊎_elim, arith, true≢false}
+use Rattle.std.proofs.Common.{◌≡◌, ℕ, zero, suc, ◌+◌, Bool, true, false, cond, ◌&&◌, nat_eq, List, [], ◌∷◌, ◌++◌,
+    get_or, slice_get, Some, None, refl, sym, ap, ap₂, subst, ◌∙◌, ⊎_elim, arith, true≢false}
 use Rattle.std.specs.List.{position_from}
 use Rattle.std.specs.Cmp.Lexicographic.{pointwise, bytes_decides}
 use Rattle.std.proofs.lemmas.Option.{none-some, same_Some}
@@ -31,7 +32,8 @@ row_from_key (Var i) (App g ys) h = absurd (nought 0 (ap (λ k. get_or k 0 0) h)
 row_from_key (App f xs) (Var j) h = absurd (nought 0 (sym (ap (λ k. get_or k 0 0) h)))
 
 pub node_by_keys : (a b : DraftNode) → pointwise nat_eq (node_key a) (node_key b) ≡ same_node a b
-node_by_keys (Equal p s t) (Equal q u v) = ap (λ x. nat_eq (sign_of p) (sign_of q) && (nat_eq s u && x)) (and_true (nat_eq t v))
+node_by_keys (Equal p s t) (Equal q u v) = ap (λ x. nat_eq (sign_of p) (sign_of q) && (nat_eq s u && x))
+    (and_true (nat_eq t v))
 node_by_keys (Atom p s) (Atom q t) = ap (λ x. nat_eq (sign_of p) (sign_of q) && x) (and_true (nat_eq s t))
 node_by_keys (And xs) (And ys) = refl
 node_by_keys (Or xs) (Or ys) = refl
@@ -54,14 +56,16 @@ node_from_key (Atom p s) (Atom q t) h = ap₂ Atom (sign_from p q (ap (λ k. get
 node_from_key (And xs) (And ys) h = let same : xs ≡ ys = cc in ap And same
 node_from_key (Or xs) (Or ys) h = let same : xs ≡ ys = cc in ap Or same
 node_from_key (Forall i) (Forall j) h = ap Forall (ap (λ k. get_or k 1 0) h)
-node_from_key a b h = let kinds : get_or (node_key a) 0 0 ≡ get_or (node_key b) 0 0 = ap (λ k. get_or k 0 0) h in absurd (omega arith)
+node_from_key a b h = let kinds : get_or (node_key a) 0 0 ≡ get_or (node_key b) 0 0 = ap (λ k. get_or k 0 0) h in
+    absurd (omega arith)
 
 -- a test tells equality
 pub record Tells {X : Type 0} (same : X → X → Bool) : Type 0 where
   pub equal : (a b : X) → same a b ≡ true → a ≡ b
   pub itself : (a : X) → same a a ≡ true
 
-pub tells_by_keys : {X : Type 0} (key : X → List ℕ) (same : X → X → Bool) → ((a b : X) → pointwise nat_eq (key a) (key b) ≡ same a b) → ((a b : X) → key a ≡ key b → a ≡ b) → Tells same
+pub tells_by_keys : {X : Type 0} (key : X → List ℕ) (same : X → X → Bool) →
+    ((a b : X) → pointwise nat_eq (key a) (key b) ≡ same a b) → ((a b : X) → key a ≡ key b → a ≡ b) → Tells same
 tells_by_keys key same by_keys from_key = record {
   equal = λ a b h. from_key a b ((bytes_decides (key a) (key b)).0 (by_keys a b ∙ h));
   itself = λ a. sym (by_keys a a) ∙ (bytes_decides (key a) (key a)).1 refl;
@@ -74,36 +78,49 @@ pub nodes_told : Tells same_node
 nodes_told = tells_by_keys node_key same_node node_by_keys node_from_key
 
 module _ {X : Type 0} (same : X → X → Bool) (told : Tells same) (new : X) where
-  found : (items : List X) (j n : ℕ) → position_from (same new) j items ≡ Some n → (k : ℕ) × (n ≡ j + k) × (slice_get items k ≡ Some new)
+  found : (items : List X) (j n : ℕ) → position_from (same new) j items ≡ Some n → (k : ℕ) × (n ≡ j + k) ×
+      (slice_get items k ≡ Some new)
   found [] j n h = absurd (none-some n h)
   found (x ∷ items) j n h = by (found items (j + 1) n) (same new x) refl
     where
-      by : (position_from (same new) (j + 1) items ≡ Some n → (k : ℕ) × (n ≡ (j + 1) + k) × (slice_get items k ≡ Some new)) → (b : Bool) → same new x ≡ b → (k : ℕ) × (n ≡ j + k) × (slice_get (x ∷ items) k ≡ Some new)
-      by more true is = (0, sym (same_Some j n (ap (λ b. cond b (Some j) (position_from (same new) (j + 1) items)) (sym is) ∙ h)) ∙ omega arith, ap Some (sym (told.equal new x is)))
+      by : (position_from (same new) (j + 1) items ≡ Some n → (k : ℕ) × (n ≡ (j + 1) + k) ×
+          (slice_get items k ≡ Some new)) → (b : Bool) → same new x ≡ b → (k : ℕ) × (n ≡ j + k) ×
+          (slice_get (x ∷ items) k ≡ Some new)
+      by more true is = (0, sym (same_Some j n (ap (λ b. cond b (Some j) (position_from (same new) (j + 1) items))
+          (sym is) ∙ h)) ∙ omega arith, ap Some (sym (told.equal new x is)))
       by more false is =
           let rest = more (ap (λ b. cond b (Some j) (position_from (same new) (j + 1) items)) (sym is) ∙ h) in
           (suc rest.0, omega (arith, rest.1), rest.2)
 
   -- what is found stands there
   pub found_at : (items : List X) (n : ℕ) → position_from (same new) 0 items ≡ Some n → slice_get items n ≡ Some new
-  found_at items n h = let here = found items 0 n h in let place : here.0 ≡ n = omega (arith, here.1) in subst (λ k. slice_get items k ≡ Some new) place here.2
+  found_at items n h = let here = found items 0 n h in let place : here.0 ≡ n = omega (arith, here.1) in
+      subst (λ k. slice_get items k ≡ Some new) place here.2
 
-  not_found : (items : List X) (j : ℕ) → position_from (same new) j items ≡ None → (n : ℕ) → slice_get items n ≡ Some new → ⊥
+  not_found : (items : List X) (j : ℕ) → position_from (same new) j items ≡ None → (n : ℕ) →
+      slice_get items n ≡ Some new → ⊥
   not_found [] j h n at = none-some new at
   not_found (x ∷ items) j h n at = by (not_found items (j + 1)) (same new x) refl n at
     where
-      by : (position_from (same new) (j + 1) items ≡ None → (n : ℕ) → slice_get items n ≡ Some new → ⊥) → (b : Bool) → same new x ≡ b → (n : ℕ) → slice_get (x ∷ items) n ≡ Some new → ⊥
-      by more true is n at = none-some j (sym h ∙ ap (λ b. cond b (Some j) (position_from (same new) (j + 1) items)) is)
+      by : (position_from (same new) (j + 1) items ≡ None → (n : ℕ) → slice_get items n ≡ Some new → ⊥) → (b : Bool) →
+          same new x ≡ b → (n : ℕ) → slice_get (x ∷ items) n ≡ Some new → ⊥
+      by more true is n at = none-some j (sym h ∙ ap (λ b. cond b (Some j) (position_from (same new) (j + 1) items))
+          is)
       by more false is zero at = true≢false (sym (told.itself new) ∙ ap (same new) (sym (same_Some x new at)) ∙ is)
-      by more false is (suc n) at = more (ap (λ b. cond b (Some j) (position_from (same new) (j + 1) items)) (sym is) ∙ h) n at
+      by more false is (suc n) at = more (ap (λ b. cond b (Some j) (position_from (same new) (j + 1) items)) (sym is)
+          ∙ h) n at
 
   -- what isn't found stands nowhere
   pub absent : (items : List X) → position_from (same new) 0 items ≡ None → (n : ℕ) → slice_get items n ≡ Some new → ⊥
   absent items = not_found items 0
 
   -- with a new item at the end, none stands twice
-  pub once-push : (items : List X) → position_from (same new) 0 items ≡ None → ((m n : ℕ) (x : X) → slice_get items m ≡ Some x → slice_get items n ≡ Some x → m ≡ n) → (m n : ℕ) (x : X) → slice_get (items ++ new ∷ []) m ≡ Some x → slice_get (items ++ new ∷ []) n ≡ Some x → m ≡ n
+  pub once-push : (items : List X) → position_from (same new) 0 items ≡ None →
+      ((m n : ℕ) (x : X) → slice_get items m ≡ Some x → slice_get items n ≡ Some x → m ≡ n) → (m n : ℕ) (x : X) →
+      slice_get (items ++ new ∷ []) m ≡ Some x → slice_get (items ++ new ∷ []) n ≡ Some x → m ≡ n
   once-push items h once m n x at_m at_n =
-      ⊎_elim (λ old. ⊎_elim (once m n x old) (λ p. absurd (absent items h m (old ∙ ap Some p.1))) (push_cases items new n x at_n))
-      (λ fresh. ⊎_elim (λ old. absurd (absent items h n (old ∙ ap Some fresh.1))) (λ p. fresh.0 ∙ sym p.0) (push_cases items new n x at_n))
+      ⊎_elim (λ old. ⊎_elim (once m n x old) (λ p. absurd (absent items h m (old ∙ ap Some p.1)))
+          (push_cases items new n x at_n))
+      (λ fresh. ⊎_elim (λ old. absurd (absent items h n (old ∙ ap Some fresh.1))) (λ p. fresh.0 ∙ sym p.0)
+          (push_cases items new n x at_n))
       (push_cases items new m x at_m)

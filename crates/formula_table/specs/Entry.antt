@@ -1,6 +1,7 @@
--- How a formula is entered: its reached rows become terms, its reached foralls get the next numbers, and its reached nodes
--- become nodes of the table, each in the formula's order.
-use Rattle.std.specs.Prelude.{◌≡◌, ℕ, ◌+◌, ◌<◌, ◌⊎◌, min, max, List, [], ◌∷◌, ◌++◌, length, map, slice_get, slice_index, Some}
+-- How a formula is entered: its reached rows become terms, its reached foralls get the next numbers, and its reached
+-- nodes become nodes of the table, each in the formula's order.
+use Rattle.std.specs.Prelude.{◌≡◌, ℕ, ◌+◌, ◌<◌, ◌⊎◌, min, max, List, [], ◌∷◌, ◌++◌, length, map, slice_get,
+    slice_index, Some}
 use Rattle.graph_terms.specs.declared.term_row.TermRow.{TermRow}
 use Rattle.graph_trigger.specs.declared.trigger.Trigger.{Trigger}
 use Rattle.graph_meaning.specs.Questions.{AreAll}
@@ -31,9 +32,11 @@ pub record BecomesRow (formula : Formula) (terms : List ℕ) (n : ℕ) (row : Te
   pub stands : slice_get formula.rows n ≡ Some (App symbol args)
   pub row_is : row ≡ entered_row terms symbol args
 
--- the first rows were entered: the rows that were added, and the term of each, which means nothing for a row that isn't reached
+-- the first rows were entered: the rows that were added, and the term of each, which means nothing for a row that
+-- isn't reached
 abbrev pub EntersRows : Formula → List TermRow → ℕ → List TermRow → List ℕ → Type 0
-EntersRows formula rows limit added terms = AreInOrder (BecomesRow formula terms) rows limit (length terms) added terms
+EntersRows formula rows limit added terms = AreInOrder (BecomesRow formula terms) rows limit (length terms) added
+    terms
 
 -- a trigger with the number of its forall and its place
 abbrev pub placed : ℕ → ℕ → Trigger → Trigger
@@ -59,11 +62,14 @@ pub record EntersForalls (formula : Formula) (old added : List TableForall) (num
   pub reached : List ℕ
   pub all : AreAll (λ index. (index < length numbers) × ReachesForall formula index) reached
   pub count : length reached ≡ length added
-  pub each : (k index : ℕ) (forall : DraftForall) → slice_get reached k ≡ Some index → slice_get formula.foralls index ≡ Some forall → (slice_index numbers index ≡ length old + k) × (slice_get added k ≡ Some (table_forall (length old + k) forall))
+  pub each : (k index : ℕ) (forall : DraftForall) → slice_get reached k ≡ Some index →
+      slice_get formula.foralls index ≡ Some forall → (slice_index numbers index ≡ length old + k) ×
+      (slice_get added k ≡ Some (table_forall (length old + k) forall))
 
 -- the node over terms, numbers of foralls and earlier nodes; the terms of an equation in ascending order
 abbrev pub entered_node : List ℕ → List ℕ → List ℕ → DraftNode → Node
-entered_node terms foralls numbers (Equal positive left right) = entered.Equal positive (min (slice_index terms left) (slice_index terms right)) (max (slice_index terms left) (slice_index terms right))
+entered_node terms foralls numbers (Equal positive left right) = entered.Equal positive
+    (min (slice_index terms left) (slice_index terms right)) (max (slice_index terms left) (slice_index terms right))
 entered_node terms foralls numbers (Atom positive row) = entered.Atom positive (slice_index terms row)
 entered_node terms foralls numbers (And parts) = entered.And (map (slice_index numbers) parts)
 entered_node terms foralls numbers (Or parts) = entered.Or (map (slice_index numbers) parts)
@@ -78,17 +84,20 @@ pub record BecomesNode (formula : Formula) (terms foralls numbers : List ℕ) (n
 
 -- the first nodes were entered: the nodes that were added, and the number of each
 abbrev pub EntersNodes : Formula → List ℕ → List ℕ → List Node → ℕ → List Node → List ℕ → Type 0
-EntersNodes formula terms foralls nodes limit added numbers = AreInOrder (BecomesNode formula terms foralls numbers) nodes limit (length numbers) added numbers
+EntersNodes formula terms foralls nodes limit added numbers = AreInOrder (BecomesNode formula terms foralls numbers)
+    nodes limit (length numbers) added numbers
 
 -- all rows were entered, and the terms grew by what they added
-pub record RowsGrow (grown : List TermRow → Type 0) (formula : Formula) (rows : List TermRow) (limit : ℕ) (terms : List ℕ) : Type 0 where
+pub record RowsGrow (grown : List TermRow → Type 0) (formula : Formula) (rows : List TermRow) (limit : ℕ)
+    (terms : List ℕ) : Type 0 where
   pub added : List TermRow
   pub grew : grown added
   pub enters : EntersRows formula rows limit added terms
   pub all : length terms ≡ length formula.rows
 
 -- the first rows were entered, the terms grew by what they added, and there is no room for the next term
-pub record FillsTerms (grown : List TermRow → Type 0) (formula : Formula) (rows : List TermRow) (limit : ℕ) : Type 0 where
+pub record FillsTerms (grown : List TermRow → Type 0) (formula : Formula) (rows : List TermRow) (limit : ℕ) : Type 0
+    where
   pub added : List TermRow
   pub terms : List ℕ
   pub grew : grown added
@@ -96,7 +105,8 @@ pub record FillsTerms (grown : List TermRow → Type 0) (formula : Formula) (row
   pub full : IsFullFor (BecomesRow formula terms (length terms)) (rows ++ added) limit
 
 -- the first rows were entered, the terms grew by what they added, and perhaps memory was refused for the next term
-pub record LacksMemory (grown refused : List TermRow → Type 0) (formula : Formula) (rows : List TermRow) (limit : ℕ) : Type 0 where
+pub record LacksMemory (grown refused : List TermRow →
+    Type 0) (formula : Formula) (rows : List TermRow) (limit : ℕ) : Type 0 where
   pub added : List TermRow
   pub terms : List ℕ
   pub grew : grown added ⊎ refused added
@@ -108,7 +118,8 @@ pub record ForallsGrow (formula : Formula) (old added : List TableForall) (numbe
   pub all : length numbers ≡ length formula.foralls
 
 -- all nodes were entered, and the root has this number
-pub record NodesGrow (formula : Formula) (terms foralls : List ℕ) (old : Formulas) (added : List Node) (number : ℕ) : Type 0 where
+pub record NodesGrow (formula : Formula) (terms foralls : List ℕ) (old : Formulas) (added : List Node)
+    (number : ℕ) : Type 0 where
   pub numbers : List ℕ
   pub enters : EntersNodes formula terms foralls old.nodes old.limit added numbers
   pub all : length numbers ≡ length formula.nodes
@@ -144,19 +155,22 @@ StopsTable formula terms old NodesFull = FillsTable formula terms old
 StopsTable formula terms old Memory = Unit {0}
 
 -- the formula was entered: its rows as terms, then its foralls and nodes, of which the root has this number
-pub record Enters (grown : List TermRow → Type 0) (formula : Formula) (rows : List TermRow) (limit : ℕ) (old new : Formulas) (number : ℕ) : Type 0 where
+pub record Enters (grown : List TermRow → Type 0) (formula : Formula) (rows : List TermRow) (limit : ℕ)
+    (old new : Formulas) (number : ℕ) : Type 0 where
   pub terms : List ℕ
   pub rows_grow : RowsGrow grown formula rows limit terms
   pub table_grows : TableGrows formula terms old new number
 
 -- the rows were entered as terms, and there is no room for all nodes
-pub record LacksNodes (grown : List TermRow → Type 0) (formula : Formula) (rows : List TermRow) (limit : ℕ) (old : Formulas) : Type 0 where
+pub record LacksNodes (grown : List TermRow → Type 0) (formula : Formula) (rows : List TermRow) (limit : ℕ)
+    (old : Formulas) : Type 0 where
   pub terms : List ℕ
   pub rows_grow : RowsGrow grown formula rows limit terms
   pub fills : FillsTable formula terms old
 
 -- the formula was not entered
-abbrev pub StopsEntry : (List TermRow → Type 0) → (List TermRow → Type 0) → Formula → List TermRow → ℕ → Formulas → EnterFault → Type 0
+abbrev pub StopsEntry : (List TermRow → Type 0) → (List TermRow → Type 0) → Formula → List TermRow → ℕ → Formulas →
+    EnterFault → Type 0
 StopsEntry grown refused formula rows limit old TermsFull = FillsTerms grown formula rows limit
 StopsEntry grown refused formula rows limit old NodesFull = LacksNodes grown formula rows limit old
 StopsEntry grown refused formula rows limit old Memory = LacksMemory grown refused formula rows limit

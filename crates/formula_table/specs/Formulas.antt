@@ -1,5 +1,6 @@
 -- The table of formulas.
-use Rattle.std.specs.Prelude.{◌≡◌, ℕ, ◌<◌, ◌≤◌, Bool, List, [], ◌++◌, length, slice_get, take, Option, Some, option_map, All}
+use Rattle.std.specs.Prelude.{◌≡◌, ℕ, ◌<◌, ◌≤◌, Bool, List, [], ◌++◌, length, slice_get, take, Option, Some,
+    option_map, All}
 use Rattle.graph_trigger.specs.declared.trigger.Trigger.{Trigger}
 use Rattle.graph_trigger.specs.Trigger.{IsValid}
 use Rattle.formula_table.specs.declared.node.Node.{Node}
@@ -23,7 +24,8 @@ no_formulas limit = record { nodes = []; foralls = []; limit = limit }
 
 -- the first nodes and foralls
 abbrev pub first_formulas : ℕ → ℕ → Formulas → Formulas
-first_formulas nodes foralls table = record { nodes = take nodes table.nodes; foralls = take foralls table.foralls; limit = table.limit }
+first_formulas nodes foralls table = record { nodes = take nodes table.nodes; foralls = take foralls table.foralls;
+    limit = table.limit }
 
 -- the trigger at a place of a forall with so many variables
 pub record IsTriggerOf (forall place variables : ℕ) (trigger : Trigger) : Type 0 where
@@ -35,28 +37,35 @@ pub record IsTriggerOf (forall place variables : ℕ) (trigger : Trigger) : Type
 -- the forall with this number has few variables, and its triggers name it and their places
 pub record IsForallOf (n : ℕ) (forall : TableForall) : Type 0 where
   pub few_variables : forall.variables ≤ 32
-  pub triggers : (place : ℕ) (trigger : Trigger) → slice_get forall.triggers place ≡ Some trigger → IsTriggerOf n place forall.variables trigger
+  pub triggers : (place : ℕ) (trigger : Trigger) → slice_get forall.triggers place ≡ Some trigger →
+      IsTriggerOf n place forall.variables trigger
 
 -- parts are earlier, the terms of an equation ascend, foralls stand, and no node stands twice
 pub record IsFormulaTable (table : Formulas) : Type 0 where
-  pub earlier : (n : ℕ) (node : Node) → slice_get table.nodes n ≡ Some node → All (λ part. part < n) (children_of node)
-  pub ascending : (n left right : ℕ) (positive : Bool) → slice_get table.nodes n ≡ Some (Equal positive left right) → left ≤ right
-  pub once : (m n : ℕ) (node : Node) → slice_get table.nodes m ≡ Some node → slice_get table.nodes n ≡ Some node → m ≡ n
+  pub earlier : (n : ℕ) (node : Node) → slice_get table.nodes n ≡ Some node →
+      All (λ part. part < n) (children_of node)
+  pub ascending : (n left right : ℕ) (positive : Bool) → slice_get table.nodes n ≡ Some (Equal positive left right) →
+      left ≤ right
+  pub once : (m n : ℕ) (node : Node) → slice_get table.nodes m ≡ Some node → slice_get table.nodes n ≡ Some node →
+      m ≡ n
   pub foralls_stand : (n forall : ℕ) → slice_get table.nodes n ≡ Some (Forall forall) → forall < length table.foralls
   pub foralls : (n : ℕ) (forall : TableForall) → slice_get table.foralls n ≡ Some forall → IsForallOf n forall
   pub within : length table.nodes ≤ table.limit
 
 -- the terms of each node are among the first so many
 abbrev pub NodesStand : ℕ → List Node → Type 0
-NodesStand terms nodes = (n : ℕ) (node : Node) → slice_get nodes n ≡ Some node → All (λ term. term < terms) (terms_in node)
+NodesStand terms nodes = (n : ℕ) (node : Node) → slice_get nodes n ≡ Some node →
+    All (λ term. term < terms) (terms_in node)
 
 -- none of the first nodes names a later forall
 abbrev pub NamesFirst : Formulas → ℕ → ℕ → Type 0
-NamesFirst table nodes foralls = (n forall : ℕ) → n < nodes → slice_get table.nodes n ≡ Some (Forall forall) → forall < foralls
+NamesFirst table nodes foralls = (n forall : ℕ) → n < nodes → slice_get table.nodes n ≡ Some (Forall forall) →
+    forall < foralls
 
 -- the triggers of the forall with this number
 abbrev pub HasTriggers : Formulas → ℕ → List Trigger → Type 0
-HasTriggers table n triggers = (forall : TableForall) × (slice_get table.foralls n ≡ Some forall) × (forall.triggers ≡ triggers)
+HasTriggers table n triggers = (forall : TableForall) × (slice_get table.foralls n ≡ Some forall) ×
+    (forall.triggers ≡ triggers)
 
 -- the table with further foralls
 abbrev pub with_foralls : List TableForall → Formulas → Formulas
@@ -64,7 +73,8 @@ with_foralls more table = record table { foralls = table.foralls ++ more }
 
 -- the number of a node, and the table with it: it stands, or it is put last, or there is no room for it
 abbrev pub with_entered : Node → Formulas → Option (ℕ × Formulas)
-with_entered new table = option_map (λ (put : ℕ × List Node). (put.0, record table { nodes = put.1 })) (with_item same_entered table.limit new table.nodes)
+with_entered new table = option_map (λ (put : ℕ × List Node). (put.0, record table { nodes = put.1 }))
+    (with_item same_entered table.limit new table.nodes)
 
 -- the node names earlier nodes and a forall that stands, and the terms of an equation ascend
 abbrev pub FitsTable : Formulas → Node → Type 0

@@ -9,8 +9,10 @@ use Rattle.graph_classes.specs.State.{State}
 -- the term is to be listed at the place
 abbrev pub Belongs : List TermRow → List ℕ → Place → ℕ → Type 0
 Belongs rows labels (Symbol symbol) term = (args : List ℕ) × HasRow rows term (term_row symbol args)
-Belongs rows labels (Member label symbol) term = (args : List ℕ) × HasRow rows term (term_row symbol args) × (slice_index labels term ≡ label)
-Belongs rows labels (Parent label symbol argument) term = (args : List ℕ) × (arg : ℕ) × HasRow rows term (term_row symbol args) × (slice_get args argument ≡ Some arg) × (slice_index labels arg ≡ label)
+Belongs rows labels (Member label symbol) term = (args : List ℕ) × HasRow rows term (term_row symbol args) ×
+    (slice_index labels term ≡ label)
+Belongs rows labels (Parent label symbol argument) term = (args : List ℕ) × (arg : ℕ) ×
+    HasRow rows term (term_row symbol args) × (slice_get args argument ≡ Some arg) × (slice_index labels arg ≡ label)
 
 -- the label is its own
 abbrev pub IsOwn : List ℕ → ℕ → Type 0
@@ -49,14 +51,16 @@ pub record IsListed (s : State) : Type 0 where
 pub record IsListing (old new : State) (place : Place) (term : ℕ) : Type 0 where
   pub alone : new ≡ record old { lists = new.lists }
   pub keeps : (other : Place) (t : ℕ) → Contains (old.lists other) t → Contains (new.lists other) t
-  pub sound : (other : Place) (t : ℕ) → Contains (new.lists other) t → Contains (old.lists other) t ⊎ ((other ≡ place) × (t ≡ term))
+  pub sound : (other : Place) (t : ℕ) → Contains (new.lists other) t →
+      Contains (old.lists other) t ⊎ ((other ≡ place) × (t ≡ term))
   pub listed : Contains (new.lists place) term
 
 -- the lists got terms that belong there, and nothing else changed
 pub record ListsMore (old new : State) : Type 0 where
   pub alone : new ≡ record old { lists = new.lists }
   pub keeps : (place : Place) (t : ℕ) → Contains (old.lists place) t → Contains (new.lists place) t
-  pub sound : (place : Place) (t : ℕ) → Contains (new.lists place) t → Contains (old.lists place) t ⊎ Belongs old.rows old.labels place t
+  pub sound : (place : Place) (t : ℕ) → Contains (new.lists place) t →
+      Contains (old.lists place) t ⊎ Belongs old.rows old.labels place t
 
 -- one label got the lesser of its leader and another label's
 pub record IsLed (old new : List ℕ) (from into : ℕ) : Type 0 where
@@ -72,8 +76,11 @@ AreTerms s terms = (t : ℕ) → Contains terms t → t < length s.rows
 
 -- the term is listed among those of its symbol in its class
 abbrev pub IsMemberListed : State → ℕ → Type 0
-IsMemberListed s term = (symbol : ℕ) (args : List ℕ) → HasRow s.rows term (term_row symbol args) → Contains (s.lists (Member (slice_index s.labels term) symbol)) term
+IsMemberListed s term = (symbol : ℕ) (args : List ℕ) → HasRow s.rows term (term_row symbol args) →
+    Contains (s.lists (Member (slice_index s.labels term) symbol)) term
 
 -- the term is listed among the parents of the class of each argument
 abbrev pub AreParentsListed : State → ℕ → Type 0
-AreParentsListed s term = (symbol : ℕ) (args : List ℕ) (argument arg : ℕ) → HasRow s.rows term (term_row symbol args) → slice_get args argument ≡ Some arg → Contains (s.lists (Parent (slice_index s.labels arg) symbol argument)) term
+AreParentsListed s term = (symbol : ℕ) (args : List ℕ) (argument arg : ℕ) →
+    HasRow s.rows term (term_row symbol args) → slice_get args argument ≡ Some arg →
+    Contains (s.lists (Parent (slice_index s.labels arg) symbol argument)) term

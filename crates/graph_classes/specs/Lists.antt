@@ -1,5 +1,6 @@
 -- The lists of terms, each under its place.
-use Rattle.std.specs.Prelude.{◌≡◌, ℕ, List, Option, Bool, false, nat_eq, ◌&&◌, if◌then◌else◌, Contains, MatchOption, ◌≤◌, length, insert}
+use Rattle.std.specs.Prelude.{◌≡◌, ℕ, List, Option, Bool, false, nat_eq, ◌&&◌, if◌then◌else◌, Contains, MatchOption,
+    ◌≤◌, length, insert}
 use Rattle.graph_classes.specs.declared.place.Place.{Place}
 use Rattle.graph_classes.specs.declared.place.Place.TheVariants.{Symbol, Member, Parent}
 
@@ -16,4 +17,6 @@ with_list lists place list other = if same_place place other then list else list
 
 -- the term was put into the list at the place, or it was there already
 abbrev pub EntersAt : (Place → List ℕ) → (Place → List ℕ) → Place → ℕ → Option ℕ → Type 0
-EntersAt old new place term at = MatchOption at ((new ≡ old) × Contains (old place) term) (λ i. (i ≤ length (old place)) × (new ≡ with_list old place (insert (old place) i term)))
+EntersAt old new place term at = MatchOption at ((new ≡ old) ×
+    Contains (old place) term) (λ i. (i ≤ length (old place)) ×
+    (new ≡ with_list old place (insert (old place) i term)))

@@ -15,5 +15,6 @@ NoneSame standing pairs k = (i s t : ℕ) → i < k → slice_get pairs i ≡ So
 
 -- the first of the pairs that are kept apart whose terms are the same, or none where there is no such pair
 abbrev pub IsClash : List Done → Option Clash → Type 0
-IsClash standing (Some clash) = (k : ℕ) × (slice_get (apart_of standing) k ≡ Some (clash.left, clash.right)) × Same standing clash.left clash.right × NoneSame standing (apart_of standing) k
+IsClash standing (Some clash) = (k : ℕ) × (slice_get (apart_of standing) k ≡ Some (clash.left, clash.right)) ×
+    Same standing clash.left clash.right × NoneSame standing (apart_of standing) k
 IsClash standing None = (s t : ℕ) → Contains (apart_of standing) (s, t) → Same standing s t → ⊥

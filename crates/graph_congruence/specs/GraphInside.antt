@@ -12,7 +12,8 @@ use Rattle.graph_classes.specs.Standing.{IsGood}
 
 -- the graph that the fields hold
 abbrev pub shown_graph : Inside → GraphState
-shown_graph graph = record { standing = (now graph.classes).log; done = graph.done; limit = (now graph.classes).limit }
+shown_graph graph = record { standing = (now graph.classes).log; done = graph.done;
+    limit = (now graph.classes).limit }
 
 -- the state was in order, and had these operations
 pub record HasStood (s : State) (log : List Done) (limit : ℕ) : Type 0 where
@@ -25,7 +26,8 @@ pub record AreStarts (classes : Classes) (starts : List ℕ) : Type 0 where
   pub each : length starts ≡ length (now classes).log
   pub marks : (i : ℕ) → i < length starts → slice_index starts i ≤ length (notes classes)
   pub rise : (i j : ℕ) → i ≤ j → j < length starts → slice_index starts i ≤ slice_index starts j
-  pub stood : (i : ℕ) → i < length starts → HasStood (state_at classes (slice_index starts i)) (take i (now classes).log) (now classes).limit
+  pub stood : (i : ℕ) → i < length starts → HasStood (state_at classes (slice_index starts i))
+      (take i (now classes).log) (now classes).limit
   pub good : IsGood (now classes)
 
 -- what the fields keep true; each open level keeps a serial free for its Pop

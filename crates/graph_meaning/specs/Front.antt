@@ -14,7 +14,8 @@ front_of standing = record { length = length standing; last = last_serial standi
 
 -- the list that the front names is empty, or its last operation still stands at its place
 abbrev pub StillStands : List Done → Front → Type 0
-StillStands standing front = (front.length ≡ 0) ⊎ ((done : Done) × (slice_get standing (front.length - 1) ≡ Some done) × (done.serial ≡ front.last))
+StillStands standing front = (front.length ≡ 0) ⊎ ((done : Done) ×
+    (slice_get standing (front.length - 1) ≡ Some done) × (done.serial ≡ front.last))
 
 -- serials rise, and each is below the number of operations that were done
 pub record HasSerials (standing : List Done) (done : ℕ) : Type 0 where

@@ -10,13 +10,15 @@ use Rattle.graph_trigger.specs.Trigger.{IsValid}
 
 -- the row is new, and its few arguments are terms
 abbrev pub AllowsRow : List TermRow → ℕ → List ℕ → Type 0
-AllowsRow rows symbol args = All (λ arg. arg < length rows) args × (length args ≤ most_args) × IsAbsent rows (term_row symbol args)
+AllowsRow rows symbol args = All (λ arg. arg < length rows) args × (length args ≤ most_args) ×
+    IsAbsent rows (term_row symbol args)
 
 -- both numbers are below the bound
 abbrev pub AreBelow : ℕ → ℕ → ℕ → Type 0
 AreBelow bound left right = (left < bound) × (right < bound)
 
--- the operation may be done next: the terms that it names stand, its row is new, its trigger is valid, and a Pop has its Push
+-- the operation may be done next: the terms that it names stand, its row is new, its trigger is valid, and a Pop has
+-- its Push
 abbrev pub Allows : List Done → Op → Type 0
 Allows standing (Add symbol args) = AllowsRow (terms_of standing) symbol args
 Allows standing (Merge left right) = AreBelow (length (terms_of standing)) left right

@@ -24,4 +24,6 @@ InClass standing term symbol member = HasSymbol standing symbol member × Same s
 
 -- a term with this symbol whose argument at the place is in the term's class
 abbrev pub IsParent : List Done → ℕ → ℕ → ℕ → ℕ → Type 0
-IsParent standing term symbol place parent = (args : List ℕ) × (arg : ℕ) × HasRow (terms_of standing) parent (term_row symbol args) × (slice_get args place ≡ Some arg) × Same standing arg term
+IsParent standing term symbol place parent = (args : List ℕ) × (arg : ℕ) ×
+    HasRow (terms_of standing) parent (term_row symbol args) × (slice_get args place ≡ Some arg) ×
+    Same standing arg term

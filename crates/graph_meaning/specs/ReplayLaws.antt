@@ -9,11 +9,13 @@ done-replay state [] = omega arith
 done-replay state (op ∷ ops) = let rest = done-replay (state_after state op) ops in omega (arith, rest)
 
 -- the last one comes last
-pub replay-push : (state : GraphState) (ops : List Op) (op : Op) → replay state (ops ++ op ∷ []) ≡ state_after (replay state ops) op
+pub replay-push : (state : GraphState) (ops : List Op) (op : Op) →
+    replay state (ops ++ op ∷ []) ≡ state_after (replay state ops) op
 replay-push state [] op = refl
 replay-push state (first ∷ ops) op = replay-push (state_after state first) ops op
 
 -- one replay after another
-pub replay-append : (state : GraphState) (ops more : List Op) → replay state (ops ++ more) ≡ replay (replay state ops) more
+pub replay-append : (state : GraphState) (ops more : List Op) →
+    replay state (ops ++ more) ≡ replay (replay state ops) more
 replay-append state [] more = refl
 replay-append state (first ∷ ops) more = replay-append (state_after state first) ops more

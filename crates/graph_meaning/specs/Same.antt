@@ -12,12 +12,14 @@ mutual
     turned : {s t : ℕ} → Derives rows merges s t → Derives rows merges t s
     joined : {s t u : ℕ} → Derives rows merges s t → Derives rows merges t u → Derives rows merges s u
     merged : {s t : ℕ} → Contains merges (s, t) → Derives rows merges s t
-    congruent : {s t symbol : ℕ} {ss ts : List ℕ} → HasRow rows s (term_row symbol ss) → HasRow rows t (term_row symbol ts) → DerivesEach rows merges ss ts → Derives rows merges s t
+    congruent : {s t symbol : ℕ} {ss ts : List ℕ} → HasRow rows s (term_row symbol ss) →
+        HasRow rows t (term_row symbol ts) → DerivesEach rows merges ss ts → Derives rows merges s t
 
   -- a derivation for each two arguments at one place
   pub data DerivesEach (rows : List TermRow) (merges : List (ℕ × ℕ)) : List ℕ → List ℕ → Type 0 where
     none : DerivesEach rows merges [] []
-    more : {s t : ℕ} {ss ts : List ℕ} → Derives rows merges s t → DerivesEach rows merges ss ts → DerivesEach rows merges (s ∷ ss) (t ∷ ts)
+    more : {s t : ℕ} {ss ts : List ℕ} → Derives rows merges s t → DerivesEach rows merges ss ts →
+        DerivesEach rows merges (s ∷ ss) (t ∷ ts)
 
 -- the least term that is derived equal to this one
 pub record IsClassLeader (rows : List TermRow) (merges : List (ℕ × ℕ)) (term leader : ℕ) : Type 0 where

@@ -32,7 +32,8 @@ pub record AreUnions (terms : ℕ) (old new : ℕ → ℕ → Type 0) (unions : 
   pub held : (s t : ℕ) → Generated old unions s t → new s t
   pub below : (k : ℕ) (union : Union) → slice_get unions k ≡ Some union → (union.left < terms) × (union.right < terms)
   pub led : (k : ℕ) (union : Union) → slice_get unions k ≡ Some union → Leads (Generated old (take k unions)) union
-  pub apart : (k : ℕ) (union : Union) → slice_get unions k ≡ Some union → Generated old (take k unions) union.left union.right → ⊥
+  pub apart : (k : ℕ) (union : Union) → slice_get unions k ≡ Some union →
+      Generated old (take k unions) union.left union.right → ⊥
 
 -- the two terms were the same, or are one of the first terms
 abbrev pub WasSame : List Done → ℕ → ℕ → ℕ → Type 0
@@ -40,4 +41,5 @@ WasSame standing terms s t = Same standing s t ⊎ ((s ≡ t) × (s < terms))
 
 -- the unions make the classes of the list that stands now of those of the list that stood before
 abbrev pub ListsUnions : List Done → List Done → List Union → Type 0
-ListsUnions before now unions = AreUnions (length (terms_of now)) (WasSame before (length (terms_of now))) (Same now) unions
+ListsUnions before now unions = AreUnions (length (terms_of now)) (WasSame before (length (terms_of now))) (Same now)
+    unions

@@ -1,5 +1,6 @@
 -- Labels on terms, one to each class.
-use Rattle.std.specs.Prelude.{◌≡◌, ◌≢◌, ℕ, ◌<◌, ◌≤◌, List, [], ◌∷◌, length, map, slice_index, Contains, ◌==◌, if◌then◌else◌, min, max}
+use Rattle.std.specs.Prelude.{◌≡◌, ◌≢◌, ℕ, ◌<◌, ◌≤◌, List, [], ◌∷◌, length, map, slice_index, Contains, ◌==◌,
+    if◌then◌else◌, min, max}
 use Rattle.graph_terms.specs.declared.term_row.TermRow.{TermRow}
 use Rattle.graph_terms.specs.Terms.{term_row, HasRow}
 use Rattle.graph_meaning.specs.declared.op.Op.{Op}
@@ -23,7 +24,8 @@ AreMerged merges labels = (s t : ℕ) → Contains merges (s, t) → label_of la
 
 -- two terms with one symbol and arguments of one label each
 abbrev pub IsCongruentPair : List TermRow → List ℕ → ℕ → ℕ → Type 0
-IsCongruentPair rows labels s t = (symbol : ℕ) × (ss : List ℕ) × (ts : List ℕ) × HasRow rows s (term_row symbol ss) × HasRow rows t (term_row symbol ts) × (map (label_of labels) ss ≡ map (label_of labels) ts)
+IsCongruentPair rows labels s t = (symbol : ℕ) × (ss : List ℕ) × (ts : List ℕ) × HasRow rows s (term_row symbol ss) ×
+    HasRow rows t (term_row symbol ts) × (map (label_of labels) ss ≡ map (label_of labels) ts)
 
 -- each term that is congruent to this one has its label
 abbrev pub IsCongruentToAll : List TermRow → List ℕ → ℕ → Type 0

@@ -9,7 +9,8 @@ key_of row = row.symbol ∷ row.args
 
 -- each row stands under its key
 abbrev pub IsKeyed : List (Vec ℕ Global × TermRow) → Type 0
-IsKeyed entries = (term : ℕ) (entry : Vec ℕ Global × TermRow) → slice_get entries term ≡ Some entry → entry.0.items ≡ key_of entry.1
+IsKeyed entries = (term : ℕ) (entry : Vec ℕ Global × TermRow) → slice_get entries term ≡ Some entry →
+    entry.0.items ≡ key_of entry.1
 
 -- the row was put last, under its key
 abbrev pub PutsRow : List (Vec ℕ Global × TermRow) → List (Vec ℕ Global × TermRow) → TermRow → Type 0

@@ -1,5 +1,6 @@
 -- What stays a table.
-use Rattle.std.proofs.Common.{◌≡◌, ℕ, zero, suc, ◌<◌, ◌≤◌, List, [], ◌∷◌, ◌++◌, length, take, Some, All, refl, sym, ap, subst, ◌∙◌, ⊎_elim, arith}
+use Rattle.std.proofs.Common.{◌≡◌, ℕ, zero, suc, ◌<◌, ◌≤◌, List, [], ◌∷◌, ◌++◌, length, take, Some, All, refl, sym,
+    ap, subst, ◌∙◌, ⊎_elim, arith}
 use Rattle.std.proofs.lemmas.Option.{none-some, same_Some}
 use Rattle.std.proofs.lemmas.List.Elements.{All-nil}
 use Rattle.graph_terms.specs.declared.term_row.TermRow.{TermRow}
@@ -36,18 +37,24 @@ IsTable-take len rows least table = record {
   false_row = slice_get-take_below len rows 1 (term_row 1 []) (omega arith) table.false_row;
   earlier = λ term row has. table.earlier term row (slice_get-take len rows term row has);
   few_args = λ term row has. table.few_args term row (slice_get-take len rows term row has);
-  once = λ s t row has_s has_t. table.once s t row (slice_get-take len rows s row has_s) (slice_get-take len rows t row has_t);
+  once = λ s t row has_s has_t. table.once s t row (slice_get-take len rows s row has_s)
+      (slice_get-take len rows t row has_t);
 }
 
 -- a table with a new row at its end is a table
-pub IsTable-push : (rows : List TermRow) (row : TermRow) → All (λ arg. arg < length rows) row.args → length row.args ≤ most_args → IsAbsent rows row → IsTable rows → IsTable (rows ++ row ∷ [])
+pub IsTable-push : (rows : List TermRow) (row : TermRow) → All (λ arg. arg < length rows) row.args →
+    length row.args ≤ most_args → IsAbsent rows row → IsTable rows → IsTable (rows ++ row ∷ [])
 IsTable-push rows row earlier few absent table = record {
   true_row = slice_get-append_left rows (row ∷ []) 0 (term_row 0 []) table.true_row;
   false_row = slice_get-append_left rows (row ∷ []) 1 (term_row 1 []) table.false_row;
-  earlier = λ t r has. ⊎_elim (table.earlier t r) (λ p. subst (λ r. All (λ arg. arg < t) r.args) (sym p.1) (subst (λ n. All (λ arg. arg < n) row.args) (sym p.0) earlier)) (push_cases rows row t r has);
-  few_args = λ t r has. ⊎_elim (table.few_args t r) (λ p. subst (λ r. length r.args ≤ most_args) (sym p.1) few) (push_cases rows row t r has);
+  earlier = λ t r has. ⊎_elim (table.earlier t r) (λ p. subst (λ r. All (λ arg. arg < t) r.args) (sym p.1)
+      (subst (λ n. All (λ arg. arg < n) row.args) (sym p.0) earlier)) (push_cases rows row t r has);
+  few_args = λ t r has. ⊎_elim (table.few_args t r) (λ p. subst (λ r. length r.args ≤ most_args) (sym p.1) few)
+      (push_cases rows row t r has);
   once = λ s t r has_s has_t.
-      ⊎_elim (λ old. ⊎_elim (table.once s t r old) (λ p. absurd (absent s (old ∙ ap Some p.1))) (push_cases rows row t r has_t))
-      (λ new. ⊎_elim (λ old. absurd (absent t (old ∙ ap Some new.1))) (λ p. new.0 ∙ sym p.0) (push_cases rows row t r has_t))
+      ⊎_elim (λ old. ⊎_elim (table.once s t r old) (λ p. absurd (absent s (old ∙ ap Some p.1)))
+          (push_cases rows row t r has_t))
+      (λ new. ⊎_elim (λ old. absurd (absent t (old ∙ ap Some new.1))) (λ p. new.0 ∙ sym p.0)
+          (push_cases rows row t r has_t))
       (push_cases rows row s r has_s);
 }

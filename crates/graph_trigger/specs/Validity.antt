@@ -11,11 +11,13 @@ FitsRow variables place (Var index) = index < variables
 FitsRow variables place (App symbol parts) = (length parts ≤ most_args) × All (λ part. part < place) parts
 
 abbrev pub FitRows : ℕ → List PatternRow → Type 0
-FitRows variables rows = (place : ℕ) (row : PatternRow) → slice_get rows place ≡ Some row → FitsRow variables place row
+FitRows variables rows = (place : ℕ) (row : PatternRow) → slice_get rows place ≡ Some row →
+    FitsRow variables place row
 
 -- each row names earlier rows
 abbrev pub NameEarlier : List PatternRow → Type 0
-NameEarlier rows = (row symbol : ℕ) (parts : List ℕ) → slice_get rows row ≡ Some (App symbol parts) → All (λ part. part < row) parts
+NameEarlier rows = (row symbol : ℕ) (parts : List ℕ) → slice_get rows row ≡ Some (App symbol parts) →
+    All (λ part. part < row) parts
 
 -- no earlier row is equal to the row at the place
 abbrev pub IsNewRow : List PatternRow → ℕ → Type 0
@@ -29,7 +31,8 @@ AreApplications rows roots = (i root : ℕ) → slice_get roots i ≡ Some root 
 
 -- the row is a part of an application
 abbrev pub IsPart : List PatternRow → ℕ → Type 0
-IsPart rows row = (above symbol : ℕ) × (parts : List ℕ) × (slice_get rows above ≡ Some (App symbol parts)) × Contains parts row
+IsPart rows row = (above symbol : ℕ) × (parts : List ℕ) × (slice_get rows above ≡ Some (App symbol parts)) ×
+    Contains parts row
 
 -- the row is a root or a part of an application
 abbrev pub IsReached : List PatternRow → List ℕ → ℕ → Type 0

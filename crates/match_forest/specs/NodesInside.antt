@@ -32,4 +32,5 @@ pub record Puts (old new : Trees) (at : Option ℕ) (instr : Instr) (node : ℕ)
 pub record Leads (old new : Trees) (code : List Instr) (end : ℕ) : Type 0 where
   pub extends : Extends old new
   pub way : Way new end code
-  pub fresh : (node : ℕ) → length old.instrs ≤ node → node < length new.instrs → (rest : List Instr) × Path new node end rest
+  pub fresh : (node : ℕ) → length old.instrs ≤ node → node < length new.instrs → (rest : List Instr) ×
+      Path new node end rest

@@ -18,7 +18,8 @@ IsNext trees node next = slice_get trees.above next ≡ Some (Some node)
 -- down from the first node to the second stand these instructions, with those of both
 pub data Path (trees : Trees) : ℕ → ℕ → List Instr → Type 0 where
   here : {node : ℕ} {instr : Instr} → slice_get trees.instrs node ≡ Some instr → Path trees node node (instr ∷ [])
-  down : {node next end : ℕ} {instr : Instr} {code : List Instr} → slice_get trees.instrs node ≡ Some instr → IsNext trees node next → Path trees next end code → Path trees node end (instr ∷ code)
+  down : {node next end : ℕ} {instr : Instr} {code : List Instr} → slice_get trees.instrs node ≡ Some instr →
+      IsNext trees node next → Path trees next end code → Path trees node end (instr ∷ code)
 
 -- from its root down to the node stands this code
 pub record Way (trees : Trees) (end : ℕ) (code : List Instr) : Type 0 where
@@ -28,7 +29,9 @@ pub record Way (trees : Trees) (end : ℕ) (code : List Instr) : Type 0 where
 
 -- two roots, or two nodes next after one node, differ in their instructions
 abbrev pub AreJoined : Trees → Type 0
-AreJoined trees = (n m : ℕ) (above : Option ℕ) (instr : Instr) → slice_get trees.above n ≡ Some above → slice_get trees.above m ≡ Some above → slice_get trees.instrs n ≡ Some instr → slice_get trees.instrs m ≡ Some instr → n ≡ m
+AreJoined trees = (n m : ℕ) (above : Option ℕ) (instr : Instr) → slice_get trees.above n ≡ Some above →
+    slice_get trees.above m ≡ Some above → slice_get trees.instrs n ≡ Some instr →
+    slice_get trees.instrs m ≡ Some instr → n ≡ m
 
 -- trees: what is next after a node has a greater number, and what begins alike is shared
 pub record AreTrees (trees : Trees) : Type 0 where

@@ -7,7 +7,8 @@ use Rattle.graph_meaning.specs.State.{GraphState, state_after}
 use Rattle.match_graph.specs.GraphTerms.{adding, with_terms}
 
 -- the terms of a graph that gained some are the old ones and those
-pub terms-with_terms : (graph : GraphState) (rows : List TermRow) → terms_of (with_terms graph rows).standing ≡ terms_of graph.standing ++ rows
+pub terms-with_terms : (graph : GraphState) (rows : List TermRow) →
+    terms_of (with_terms graph rows).standing ≡ terms_of graph.standing ++ rows
 terms-with_terms graph [] = sym (append-nil (terms_of graph.standing))
 terms-with_terms graph (row ∷ rows) =
     terms-with_terms (state_after graph (adding row)) rows
@@ -20,6 +21,7 @@ limit-with_terms graph [] = refl
 limit-with_terms graph (row ∷ rows) = limit-with_terms (state_after graph (adding row)) rows
 
 -- some terms and then some more are all of them
-pub with_terms-both : (graph : GraphState) (rows more : List TermRow) → with_terms graph (rows ++ more) ≡ with_terms (with_terms graph rows) more
+pub with_terms-both : (graph : GraphState) (rows more : List TermRow) →
+    with_terms graph (rows ++ more) ≡ with_terms (with_terms graph rows) more
 with_terms-both graph [] more = refl
 with_terms-both graph (row ∷ rows) more = with_terms-both (state_after graph (adding row)) rows more

@@ -1,5 +1,6 @@
 -- Commands: what each one answers, and the state after it.
-use Rattle.std.specs.Prelude.{ℕ, ◌+◌, ◌-◌, Option, None, option_map, slice_get, Bool, true, false, cond, not, ◌&&◌, ◌||◌, nat_le, ◌==◌, if◌then◌else◌, List, [], ◌∷◌, ◌++◌, length, Result, Ok, Err, bytes_eq, codes}
+use Rattle.std.specs.Prelude.{ℕ, ◌+◌, ◌-◌, Option, None, option_map, slice_get, Bool, true, false, cond, not, ◌&&◌,
+    ◌||◌, nat_le, ◌==◌, if◌then◌else◌, List, [], ◌∷◌, ◌++◌, length, Result, Ok, Err, bytes_eq, codes}
 use Rattle.std.specs.List.{list_any}
 use Rattle.smt_text.specs.Word.{Word}
 use Rattle.smt_text.specs.Trees.{tree_of}
@@ -12,12 +13,15 @@ use Rattle.smt_names.specs.declared.refusal.Refusal.TheVariants as refusal
 use Rattle.smt_names.specs.declared.signature.Signature.{Signature}
 use Rattle.smt_names.specs.Value.{sort_of, self}
 use Rattle.smt_names.specs.Making.{Making, made, ◌>>=◌, ◌>>◌, want, bad_form, not_in_profile}
-use Rattle.smt_names.specs.Names.{State, Scope, Declared, with_sort, with_function, is_symbol, is_keyword, is_numeral, is_wide, number_of, new_function_name, new_sort_name, at_start, cleared, pushed, popped}
-use Rattle.smt_terms.specs.Meant.{Meant, Listed, End, Token, Group, from, first_place, no_more, at_most, at_least, exactly, token_first, list_first, sort_first, other_sort, bindings_after, no_binding}
+use Rattle.smt_names.specs.Names.{State, Scope, Declared, with_sort, with_function, is_symbol, is_keyword, is_numeral,
+    is_wide, number_of, new_function_name, new_sort_name, at_start, cleared, pushed, popped}
+use Rattle.smt_terms.specs.Meant.{Meant, Listed, End, Token, Group, from, first_place, no_more, at_most, at_least,
+    exactly, token_first, list_first, sort_first, other_sort, bindings_after, no_binding}
 use Rattle.smt_terms.specs.Terms.{value, meant, variables_from}
 use Rattle.smt_terms.specs.Scopes.{outside, inside_definition, sorts_of}
 use Rattle.smt_commands.specs.declared.command.Command.{Command}
-use Rattle.smt_commands.specs.declared.command.Command.TheVariants.{Silent, Unsupported, Assert, Push, Pop, CheckSat, GetInfo, Reset, ResetAssertions, Exit}
+use Rattle.smt_commands.specs.declared.command.Command.TheVariants.{Silent, Unsupported, Assert, Push, Pop, CheckSat,
+    GetInfo, Reset, ResetAssertions, Exit}
 use Rattle.smt_commands.specs.declared.named.Named.{Named}
 use Rattle.smt_commands.specs.declared.named.Named.TheVariants as named
 use Rattle.smt_commands.specs.declared.info.Info.{Info}
@@ -231,7 +235,8 @@ declare_const state head parts = do
 abbrev pub defined : State → List ℕ → List Bound → ℕ → Value → Making Answer
 defined state name parameters sort v draft = silent (record state {
   definitions = state.definitions
-      ++ record { name = name; parameters = sorts_of parameters; sort = sort; rows = draft.rows; nodes = draft.nodes; value = v } ∷ [];
+      ++ record { name = name; parameters = sorts_of parameters; sort = sort; rows = draft.rows; nodes = draft.nodes;
+          value = v } ∷ [];
 }) draft
 
 -- at most 255 bindings
@@ -353,11 +358,14 @@ alone command state parts = do
 
 -- commands that are answered as not supported, whatever their parts are
 abbrev pub unsupported_names : List (List ℕ)
-unsupported_names = codes "check-sat-assuming" ∷ codes "echo" ∷ codes "get-assertions" ∷ codes "get-assignment" ∷ codes "get-model" ∷ codes "get-option" ∷ codes "get-proof" ∷ codes "get-unsat-assumptions" ∷ codes "get-unsat-core" ∷ codes "get-value" ∷ []
+unsupported_names = codes "check-sat-assuming" ∷ codes "echo" ∷ codes "get-assertions" ∷ codes "get-assignment"
+    ∷ codes "get-model" ∷ codes "get-option" ∷ codes "get-proof" ∷ codes "get-unsat-assumptions"
+    ∷ codes "get-unsat-core" ∷ codes "get-value" ∷ []
 
 -- commands that are refused
 abbrev pub foreign_names : List (List ℕ)
-foreign_names = codes "declare-datatype" ∷ codes "declare-datatypes" ∷ codes "define-fun-rec" ∷ codes "define-funs-rec" ∷ codes "define-sort" ∷ []
+foreign_names = codes "declare-datatype" ∷ codes "declare-datatypes" ∷ codes "define-fun-rec"
+    ∷ codes "define-funs-rec" ∷ codes "define-sort" ∷ []
 
 abbrev pub is_in : List (List ℕ) → List ℕ → Bool
 is_in names name = list_any (bytes_eq name) names
@@ -369,7 +377,8 @@ unfoldable pub is_foreign : List ℕ → Bool
 is_foreign name = is_in foreign_names name
 
 unfoldable pub other_command : List ℕ → Named
-other_command name = if is_unsupported name then named.Unsupported else if is_foreign name then named.Foreign else named.Unknown
+other_command name = if is_unsupported name then named.Unsupported else if is_foreign name then named.Foreign else
+    named.Unknown
 
 -- The names of the commands that are read.
 abbrev pub named_so : List ℕ → Named
@@ -418,11 +427,13 @@ headed state head parts named.Unknown = bad_form head
 abbrev pub command_of : State → Place → Meant → Making Answer
 command_of state paren End = bad_form paren
 command_of state paren (Group inner meaning parts trees) = bad_form inner.place
-command_of state paren (Token head parts) = cond (is_symbol head.kind) (headed state head.place parts (command_named head.text)) (bad_form head.place)
+command_of state paren (Token head parts) = cond (is_symbol head.kind)
+    (headed state head.place parts (command_named head.text)) (bad_form head.place)
 
 -- the name of a symbol: those of functions count from 2
 abbrev pub symbol_name : State → ℕ → Option (List ℕ)
-symbol_name state symbol = cond (nat_le 2 symbol) (option_map (λ (f : Declared). f.name) (slice_get state.functions (symbol - 2))) None
+symbol_name state symbol = cond (nat_le 2 symbol) (option_map (λ (f : Declared). f.name)
+    (slice_get state.functions (symbol - 2))) None
 
 -- the place where scripts begin
 abbrev pub start : Place

@@ -10,5 +10,6 @@ use Rattle.smt_terms.specs.Scopes.{sorts_of}
 
 -- these are the parameters, with their sorts
 abbrev pub HasParameters : Result Parameters Stop → Making (List Bound) → Type 0
-HasParameters (Ok parameters) making = ((draft : Draft) → making draft ≡ Ok (parameters.bound, draft)) × (parameters.sorts ≡ sorts_of parameters.bound)
+HasParameters (Ok parameters) making = ((draft : Draft) → making draft ≡ Ok (parameters.bound, draft)) ×
+    (parameters.sorts ≡ sorts_of parameters.bound)
 HasParameters (Err stopped) making = (draft : Draft) → Refuses stopped (making draft)

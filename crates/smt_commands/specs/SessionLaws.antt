@@ -24,8 +24,8 @@ pub record AreWithin (sorts : ℕ) (functions : List Declared) (definitions : Li
   pub functions_are : All (FunctionIsWithin sorts) functions
   pub definitions_are : All (DefinitionIsWithin sorts) definitions
 
--- no more stood when the level was opened than stands, what stood then was right by itself and named only sorts that stood
--- then, and so it is with the levels before it, the innermost first
+-- no more stood when the level was opened than stands, what stood then was right by itself and named only sorts that
+-- stood then, and so it is with the levels before it, the innermost first
 abbrev pub AreSoundLevels : (sorts : ℕ) → List Declared → List Defined → List Level → Type 0
 AreSoundLevels sorts functions definitions [] = Unit {0}
 AreSoundLevels sorts functions definitions (level ∷ levels) =
@@ -42,8 +42,10 @@ pub record IsSound (state : State) : Type 0 where
 
 -- where the command asserts a formula, the formula is a formula, sorted as the functions are declared
 abbrev pub AssertsTruth : Answer → Type 0
-AssertsTruth answer = (formula : Formula) → answer.command ≡ Assert formula → IsFormula formula × IsTruth answer.state.functions [] formula.rows formula.nodes formula.foralls formula.root
+AssertsTruth answer = (formula : Formula) → answer.command ≡ Assert formula → IsFormula formula ×
+    IsTruth answer.state.functions [] formula.rows formula.nodes formula.foralls formula.root
 
 -- every command that is answered keeps the state right, and what it asserts is a formula
 abbrev pub KeepsSound : Type 0
-KeepsSound = (state : State) (words : List Word) (answer : Answer) → IsSound state → elaborate state words ≡ Ok answer → IsSound answer.state × AssertsTruth answer
+KeepsSound = (state : State) (words : List Word) (answer : Answer) → IsSound state →
+    elaborate state words ≡ Ok answer → IsSound answer.state × AssertsTruth answer

@@ -15,19 +15,25 @@ use Rattle.smt_laws.specs.Sound.{IsDefinition, AreDeclared}
 
 -- What a formula outside foralls and definitions makes of nothing is a formula, sorted as the functions are declared.
 abbrev pub MakesFormulas : Type 0
-MakesFormulas = (state : State) (missing : Place) (trees : Trees) (most_rows most_nodes : ℕ) (v : Value) (later : Draft) → AreDeclared state.functions state.definitions
+MakesFormulas = (state : State) (missing : Place) (trees : Trees) (most_rows most_nodes : ℕ) (v : Value)
+    (later : Draft) → AreDeclared state.functions state.definitions
     → value missing (outside state) (meant trees) (empty_draft most_rows most_nodes) ≡ Ok (v, later) → sort_of v ≡ 0
     → IsFormula (finished later (self v)) × IsTruth state.functions [] later.rows later.nodes later.foralls (self v)
 
 -- What a term inside a definition makes of nothing is right for its parameters.
 abbrev pub MakesDefinitions : Type 0
-MakesDefinitions = (state : State) (missing : Place) (bindings : Meant) (before after : Draft) (parameters : List Bound) (trees : Trees) (most_rows most_nodes : ℕ) (v : Value) (later : Draft) (name : List ℕ) (sort : ℕ) (sorts : List ℕ)
+MakesDefinitions = (state : State) (missing : Place) (bindings : Meant) (before after : Draft)
+    (parameters : List Bound) (trees : Trees) (most_rows most_nodes : ℕ) (v : Value) (later : Draft) (name : List ℕ)
+    (sort : ℕ) (sorts : List ℕ)
     → AreDeclared state.functions state.definitions
     → variables_from state 0 bindings before ≡ Ok (parameters, after)
-    → value missing (inside_definition state parameters) (meant trees) (empty_draft most_rows most_nodes) ≡ Ok (v, later)
+    → value missing (inside_definition state parameters) (meant trees) (empty_draft most_rows most_nodes)
+        ≡ Ok (v, later)
     → sorts ≡ sorts_of parameters
-    → IsDefinition state.functions (record { name = name; parameters = sorts; sort = sort; rows = later.rows; nodes = later.nodes; value = v })
+    → IsDefinition state.functions (record { name = name; parameters = sorts; sort = sort; rows = later.rows;
+        nodes = later.nodes; value = v })
 
 -- A definition stays right when functions are declared.
 abbrev pub KeepsDefinitions : Type 0
-KeepsDefinitions = (functions more : List Declared) (d : Defined) → IsDefinition functions d → IsDefinition (functions ++ more) d
+KeepsDefinitions = (functions more : List Declared) (d : Defined) → IsDefinition functions d →
+    IsDefinition (functions ++ more) d

@@ -8,17 +8,23 @@ use Rattle.smt_names.specs.declared.value.Value.TheVariants.{Term, Formula}
 use Rattle.smt_names.specs.Names.{Declared, Defined}
 use Rattle.smt_laws.specs.Sorted.{HasSort, IsPlain, IsTruth}
 
--- The value of a term or a formula stands in the draft: a term has its sort, which is not Bool; a formula and its complement hold no
--- forall; and a formula without a complement stands only where foralls may.
+-- The value of a term or a formula stands in the draft: a term has its sort, which is not Bool; a formula and its
+-- complement hold no forall; and a formula without a complement stands only where foralls may.
 abbrev pub Fits : List Declared → (variables : List ℕ) → (universal : Bool) → Draft → Value → Type 0
-Fits functions variables universal draft (Term row sort) = HasSort functions variables draft.rows row sort × (1 ≤ sort)
-Fits functions variables universal draft (Formula n None) = IsTruth functions variables draft.rows draft.nodes draft.foralls n × (universal ≡ true)
-Fits functions variables universal draft (Formula n (Some c)) = IsPlain functions variables draft.rows draft.nodes n × IsPlain functions variables draft.rows draft.nodes c
+Fits functions variables universal draft (Term row sort) = HasSort functions variables draft.rows row sort ×
+    (1 ≤ sort)
+Fits functions variables universal draft (Formula n None) = IsTruth functions variables draft.rows draft.nodes
+    draft.foralls n × (universal ≡ true)
+Fits functions variables universal draft (Formula n (Some c)) = IsPlain functions variables draft.rows draft.nodes n ×
+    IsPlain functions variables draft.rows draft.nodes c
 
 -- every row has a sort, and every node is a formula that holds no forall
-pub record IsWhole (functions : List Declared) (variables : List ℕ) (rows : List DraftRow) (nodes : List DraftNode) : Type 0 where
-  pub rows_sorted : (n : ℕ) (row : DraftRow) → slice_get rows n ≡ Some row → (sort : ℕ) × HasSort functions variables rows n sort
-  pub nodes_plain : (n : ℕ) (node : DraftNode) → slice_get nodes n ≡ Some node → IsPlain functions variables rows nodes n
+pub record IsWhole (functions : List Declared) (variables : List ℕ) (rows : List DraftRow)
+    (nodes : List DraftNode) : Type 0 where
+  pub rows_sorted : (n : ℕ) (row : DraftRow) → slice_get rows n ≡ Some row → (sort : ℕ) ×
+      HasSort functions variables rows n sort
+  pub nodes_plain : (n : ℕ) (node : DraftNode) → slice_get nodes n ≡ Some node →
+      IsPlain functions variables rows nodes n
 
 -- a function has at most 255 arguments, none of which is a formula
 pub record IsFunction (f : Declared) : Type 0 where
@@ -27,7 +33,8 @@ pub record IsFunction (f : Declared) : Type 0 where
 
 -- the rows and nodes of a definition
 abbrev pub inside : Defined → Draft
-inside d = record { rows = d.rows; nodes = d.nodes; foralls = []; most_rows = length d.rows; most_nodes = length d.nodes }
+inside d = record { rows = d.rows; nodes = d.nodes; foralls = []; most_rows = length d.rows;
+    most_nodes = length d.nodes }
 
 -- a definition has no parameter that is a formula, and its rows, nodes and value are right for its parameters
 pub record IsDefinition (functions : List Declared) (d : Defined) : Type 0 where

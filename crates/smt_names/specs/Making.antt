@@ -18,7 +18,8 @@ abbrev pub made : {A : Type 0} → A → Making A
 made value draft = Ok (value, draft)
 
 -- what follows goes on with the value and the formula, or the refusal stays
-abbrev pub then_from : {A B : Type 0} → (A → Making B) → Result (A × Draft) SyntaxFault → Result (B × Draft) SyntaxFault
+abbrev pub then_from : {A B : Type 0} → (A → Making B) → Result (A × Draft) SyntaxFault →
+    Result (B × Draft) SyntaxFault
 then_from rest (Ok done) = rest done.0 done.1
 then_from rest (Err fault) = Err fault
 

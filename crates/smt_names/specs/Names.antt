@@ -1,5 +1,7 @@
 -- Names, sorts, and what a name stands for.
-use Rattle.std.specs.Prelude.{◌≡◌, ℕ, ◌+◌, ◌-◌, ◌*◌, ◌^◌, Bool, true, false, cond, not, ◌&&◌, ◌||◌, nat_le, ◌==◌, List, [], ◌∷◌, ◌++◌, length, take, get_or, slice_get, replicate, Option, Some, None, is_some, option_map, bytes_eq, codes}
+use Rattle.std.specs.Prelude.{◌≡◌, ℕ, ◌+◌, ◌-◌, ◌*◌, ◌^◌, Bool, true, false, cond, not, ◌&&◌, ◌||◌, nat_le, ◌==◌,
+    List, [], ◌∷◌, ◌++◌, length, take, get_or, slice_get, replicate, Option, Some, None, is_some, option_map,
+    bytes_eq, codes}
 use Rattle.std.specs.List.{position_from, list_any}
 use Rattle.smt_text.specs.Word.{Word}
 use Rattle.smt_text.specs.declared.token.Kind.{Kind}
@@ -19,7 +21,8 @@ use Rattle.smt_names.specs.declared.level.Level.{Level}
 use Rattle.smt_names.specs.declared.head.Head.{Head}
 use Rattle.smt_names.specs.declared.head.Head.TheVariants as head
 use Rattle.smt_names.specs.declared.refusal.Refusal.TheVariants.{BadForm, NotInProfile, UnknownName, AlreadyDeclared}
-use Rattle.smt_names.specs.Making.{Making, made, ◌>>=◌, ◌>>◌, want, want_named, refuse_named, bad_form, not_in_profile}
+use Rattle.smt_names.specs.Making.{Making, made, ◌>>=◌, ◌>>◌, want, want_named, refuse_named, bad_form,
+    not_in_profile}
 
 -- a declared function: its name, the sorts of its arguments, and the sort of its value
 pub record Declared : Type 0 where
@@ -27,7 +30,8 @@ pub record Declared : Type 0 where
   pub arguments : List ℕ
   pub sort : ℕ
 
--- a definition: its name, the sorts of its parameters, its sort, its rows, in which parameter i is variable i, its nodes and its value
+-- a definition: its name, the sorts of its parameters, its sort, its rows, in which parameter i is variable i, its
+-- nodes and its value
 pub record Defined : Type 0 where
   pub name : List ℕ
   pub parameters : List ℕ
@@ -36,8 +40,8 @@ pub record Defined : Type 0 where
   pub nodes : List DraftNode
   pub value : Value
 
--- What stands between two commands: the limits, whether success is printed, the sorts, functions and definitions in the order of
--- their declarations, and for each open level what stood when it was opened, the oldest level first.
+-- What stands between two commands: the limits, whether success is printed, the sorts, functions and definitions in
+-- the order of their declarations, and for each open level what stood when it was opened, the oldest level first.
 pub record State : Type 0 where
   pub limits : Limits
   pub prints_success : Bool
@@ -46,7 +50,8 @@ pub record State : Type 0 where
   pub definitions : List Defined
   pub levels : List Level
 
--- where a term stands: the state, the bound names, of which the last wins, and whether it is inside a forall or a definition
+-- where a term stands: the state, the bound names, of which the last wins, and whether it is inside a forall or a
+-- definition
 pub record Scope : Type 0 where
   pub state : State
   pub bound : List Bound
@@ -67,7 +72,8 @@ core_name core.Distinct = codes "distinct"
 core_name core.Ite = codes "ite"
 
 abbrev pub all_connectives : List Connective
-all_connectives = core.True ∷ core.False ∷ core.Not ∷ core.And ∷ core.Or ∷ core.Implies ∷ core.Xor ∷ core.Equals ∷ core.Distinct ∷ core.Ite ∷ []
+all_connectives = core.True ∷ core.False ∷ core.Not ∷ core.And ∷ core.Or ∷ core.Implies ∷ core.Xor ∷ core.Equals
+    ∷ core.Distinct ∷ core.Ite ∷ []
 
 -- the first that passes
 abbrev pub first_with : {A : Type 0} → (A → Bool) → List A → Option A
@@ -117,9 +123,11 @@ or_definition None = head.Unknown
 
 -- where a name that is not bound stands: in the core theory, else among the functions, else among the definitions
 abbrev pub head_of : State → List ℕ → Head
-head_of state name = or_core (connective name) (or_function (function_at name state.functions) (or_definition (definition_at name state.definitions)))
+head_of state name = or_core (connective name) (or_function (function_at name state.functions)
+    (or_definition (definition_at name state.definitions)))
 
--- What a name stands for that is not bound: a name of the core theory, a declared function with its symbol, or a definition.
+-- What a name stands for that is not bound: a name of the core theory, a declared function with its symbol, or a
+-- definition.
 pub data Named : Type 0 where
   Core : Connective → Named
   Function : (symbol : ℕ) → Declared → Named
@@ -186,7 +194,8 @@ word_of kind place text = record { kind = kind; place = place; text = text }
 -- Lawful names.
 -- the eight names that are never declared, defined or bound
 abbrev pub reserved_names : List (List ℕ)
-reserved_names = codes "!" ∷ codes "_" ∷ codes "as" ∷ codes "exists" ∷ codes "forall" ∷ codes "let" ∷ codes "match" ∷ codes "par" ∷ []
+reserved_names = codes "!" ∷ codes "_" ∷ codes "as" ∷ codes "exists" ∷ codes "forall" ∷ codes "let" ∷ codes "match"
+    ∷ codes "par" ∷ []
 
 unfoldable pub is_reserved : List ℕ → Bool
 is_reserved name = list_any (bytes_eq name) reserved_names
@@ -221,7 +230,8 @@ abbrev pub sort_at_place : Option ℕ → Option ℕ
 sort_at_place place = option_map (λ n. n + 1) place
 
 abbrev pub sort_number : State → List ℕ → Option ℕ
-sort_number state name = cond (bytes_eq name (codes "Bool")) (Some 0) (sort_at_place (position_from (bytes_eq name) 0 state.sorts))
+sort_number state name = cond (bytes_eq name (codes "Bool")) (Some 0)
+    (sort_at_place (position_from (bytes_eq name) 0 state.sorts))
 
 -- a name that a sort may get
 abbrev pub new_sort_name : State → Word → Making (Unit {0})
@@ -235,7 +245,8 @@ known_sort word (Some sort) = made sort
 
 -- the sort that a token names
 abbrev pub sort_of_token : State → Word → Making ℕ
-sort_of_token state word = cond (is_symbol word.kind) (known_sort word (sort_number state word.text)) (bad_form word.place)
+sort_of_token state word = cond (is_symbol word.kind) (known_sort word (sort_number state word.text))
+    (bad_form word.place)
 
 -- the sort that a token names, where Bool is not supported
 abbrev pub other_sort_of_token : State → Word → Making ℕ
@@ -263,7 +274,8 @@ with_function name signature state = record state { functions = state.functions 
 
 -- a definition under its name
 abbrev pub defined_as : List ℕ → definition.Definition → Defined
-defined_as name d = record { name = name; parameters = d.parameters; sort = d.sort; rows = d.draft.rows; nodes = d.draft.nodes; value = d.value }
+defined_as name d = record { name = name; parameters = d.parameters; sort = d.sort; rows = d.draft.rows;
+    nodes = d.draft.nodes; value = d.value }
 
 -- the definition that stands there under some name, or none
 abbrev pub DefinedAt : Option Defined → Option definition.Definition → Type 0
@@ -276,7 +288,8 @@ with_definition name d state = record state { definitions = state.definitions ++
 
 -- nothing declared
 abbrev pub at_start : Limits → State
-at_start limits = record { limits = limits; prints_success = false; sorts = []; functions = []; definitions = []; levels = [] }
+at_start limits = record { limits = limits; prints_success = false; sorts = []; functions = []; definitions = [];
+    levels = [] }
 
 -- nothing declared, and the options as they are
 abbrev pub cleared : State → State
@@ -284,7 +297,8 @@ cleared state = record (at_start state.limits) { prints_success = state.prints_s
 
 -- what stands
 abbrev pub level_of : State → Level
-level_of state = record { sorts = length state.sorts; functions = length state.functions; definitions = length state.definitions }
+level_of state = record { sorts = length state.sorts; functions = length state.functions;
+    definitions = length state.definitions }
 
 -- n levels more
 abbrev pub pushed : ℕ → State → State

@@ -1,5 +1,6 @@
 -- The rows of a trigger, and how large a pattern is.
-use Rattle.std.specs.Prelude.{ℕ, zero, suc, Bool, true, false, cond, nat_le, ◌==◌, List, [], ◌∷◌, ◌++◌, map, length, get_or, slice_set, replicate, sum_by}
+use Rattle.std.specs.Prelude.{ℕ, zero, suc, Bool, true, false, cond, nat_le, ◌==◌, List, [], ◌∷◌, ◌++◌, map, length,
+    get_or, slice_set, replicate, sum_by}
 use Rattle.std.specs.List.{list_any}
 use Rattle.formula_draft.specs.declared.draft_row.DraftRow.{DraftRow}
 use Rattle.formula_draft.specs.declared.draft_row.DraftRow.TheVariants.{Var, App}
@@ -12,7 +13,8 @@ use Rattle.smt_patterns.specs.declared.keeping.Keeping.{Keeping}
 -- how many symbols and variables each row has as a tree, after the sizes of those before it
 abbrev pub sizes_after : List ℕ → List DraftRow → List ℕ
 sizes_after sizes [] = sizes
-sizes_after sizes (next ∷ rows) = sizes_after (sizes ++ suc (sum_by (λ arg. get_or sizes arg 0) (args_of next)) ∷ []) rows
+sizes_after sizes (next ∷ rows) = sizes_after (sizes ++ suc (sum_by (λ arg. get_or sizes arg 0) (args_of next)) ∷ [])
+    rows
 
 -- how many symbols and variables a row has as a tree
 abbrev pub size_of : List DraftRow → ℕ → ℕ
@@ -32,10 +34,12 @@ abbrev pub spread : Bool → List ℕ → List Bool → List Bool
 spread true args marks = marked args marks
 spread false args marks = marks
 
--- the rows that are reached from marked ones, going down from a number; arguments stand before what they are arguments of
+-- the rows that are reached from marked ones, going down from a number; arguments stand before what they are
+-- arguments of
 abbrev pub reached_below : ℕ → List DraftRow → List Bool → List Bool
 reached_below zero rows marks = marks
-reached_below (suc n) rows marks = reached_below n rows (spread (get_or marks n false) (args_of (get_or rows n (Var 0))) marks)
+reached_below (suc n) rows marks = reached_below n rows
+    (spread (get_or marks n false) (args_of (get_or rows n (Var 0))) marks)
 
 -- which rows are reached from these roots
 abbrev pub reached_from : List DraftRow → List ℕ → List Bool
@@ -57,13 +61,15 @@ renumbered numbers (App symbol args) = pattern.App symbol (numbered numbers args
 
 -- one row more, which is kept where it is reached
 abbrev pub kept_if : Bool → Kept → DraftRow → Kept
-kept_if true kept row = record { numbers = kept.numbers ++ length kept.rows ∷ []; rows = kept.rows ++ renumbered kept.numbers row ∷ [] }
+kept_if true kept row = record { numbers = kept.numbers ++ length kept.rows ∷ [];
+    rows = kept.rows ++ renumbered kept.numbers row ∷ [] }
 kept_if false kept row = record kept { numbers = kept.numbers ++ 0 ∷ [] }
 
 -- the reached rows, in the order in which they stand
 abbrev pub kept_after : List Bool → Kept → List DraftRow → Kept
 kept_after marks kept [] = kept
-kept_after marks kept (row ∷ rows) = kept_after marks (kept_if (get_or marks (length kept.numbers) false) kept row) rows
+kept_after marks kept (row ∷ rows) = kept_after marks (kept_if (get_or marks (length kept.numbers) false) kept row)
+    rows
 
 -- the rows of these that the roots reach
 abbrev pub kept_of : List DraftRow → List ℕ → Kept

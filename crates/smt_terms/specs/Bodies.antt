@@ -42,5 +42,8 @@ SeesAnnotated words i false = is_annotated (here words i) ≡ false
 
 -- what passing a list with attributes did
 abbrev pub PassesAnnotation : List Word → List ℕ → List ℕ → ℕ → Result (Unit {0}) Stop → Type 0
-PassesAnnotation words keys new_keys i (Ok done) = (draft : Draft) → terms.body_of (attributes_at words keys) (here words i) draft ≡ terms.body_of (attributes_at words new_keys) (here words (i + 2)) draft
-PassesAnnotation words keys new_keys i (Err stop) = (draft : Draft) → Refuses stop (terms.body_of (attributes_at words keys) (here words i) draft)
+PassesAnnotation words keys new_keys i (Ok done) = (draft : Draft) →
+    terms.body_of (attributes_at words keys) (here words i) draft
+    ≡ terms.body_of (attributes_at words new_keys) (here words (i + 2)) draft
+PassesAnnotation words keys new_keys i (Err stop) = (draft : Draft) →
+    Refuses stop (terms.body_of (attributes_at words keys) (here words i) draft)

@@ -1,5 +1,6 @@
 -- What stands from a word on.
-use Rattle.std.specs.Prelude.{◌≡◌, ℕ, ◌+◌, ◌<◌, ◌^◌, Bool, true, false, List, [], length, get_or, drop, Option, Some, None}
+use Rattle.std.specs.Prelude.{◌≡◌, ℕ, ◌+◌, ◌<◌, ◌^◌, Bool, true, false, List, [], length, get_or, drop, Option, Some,
+    None}
 use Rattle.smt_text.specs.Word.{Word}
 use Rattle.smt_text.specs.Trees.{ahead, outermost}
 use Rattle.smt_text.specs.declared.token.Kind.{Kind}
@@ -38,7 +39,8 @@ pub record SeesToken (words : List Word) (i : ℕ) : Type 0 where
 pub record SeesList (words : List Word) (i after : ℕ) : Type 0 where
   pub within : i < length words
   pub fits : length words < 2 ^ 32
-  pub is : here words i ≡ Group (word_at words i) (list_value (word_at words i) (here words (i + 1))) (here words (i + 1)) (here words after)
+  pub is : here words i ≡ Group (word_at words i) (list_value (word_at words i) (here words (i + 1)))
+      (here words (i + 1)) (here words after)
 
 -- what comes next
 abbrev pub Sees : List Word → ℕ → Seen → Type 0
@@ -56,7 +58,9 @@ pub record SeesBinding (words : List Word) (i name behind : ℕ) : Type 0 where
   pub named : name ≡ i + 1
   pub within : name < length words
   pub fits : length words < 2 ^ 32
-  pub is : here words i ≡ Group (word_at words i) (list_value (word_at words i) (Token (word_at words name) (here words (name + 1)))) (Token (word_at words name) (here words (name + 1))) (here words behind)
+  pub is : here words i ≡ Group (word_at words i) (list_value (word_at words i)
+      (Token (word_at words name) (here words (name + 1)))) (Token (word_at words name) (here words (name + 1)))
+      (here words behind)
 
 -- the binding that comes next
 abbrev pub MaySeeBinding : List Word → ℕ → Option Binding → Type 0

@@ -126,7 +126,8 @@ abbrev pub no_binding : Refusal → Meant → Making (Unit {0})
 no_binding refusal (Group paren meaning (Token name given) trees) = refuse refusal name.place
 no_binding refusal trees = made tt
 
--- attributes from here on: keywords, and behind each of them perhaps one value, a token or a list; whether a value may come next
+-- attributes from here on: keywords, and behind each of them perhaps one value, a token or a list; whether a value
+-- may come next
 abbrev pub attributes_after : Bool → Meant → Making (Unit {0})
 attributes_after valued End = made tt
 attributes_after valued (Token word trees) = cond (is_keyword word.kind) (attributes_after true trees)

@@ -1,5 +1,6 @@
 -- Terms and formulas: what each token and each list means.
-use Rattle.std.specs.Prelude.{ℕ, ◌+◌, Bool, true, false, cond, not, ◌&&◌, ◌||◌, ◌==◌, if◌then◌else◌, List, [], ◌∷◌, ◌++◌, length, Option, Some, None, is_some, bytes_eq, codes}
+use Rattle.std.specs.Prelude.{ℕ, ◌+◌, Bool, true, false, cond, not, ◌&&◌, ◌||◌, ◌==◌, if◌then◌else◌, List, [], ◌∷◌,
+    ◌++◌, length, Option, Some, None, is_some, bytes_eq, codes}
 use Rattle.smt_text.specs.Word.{Word}
 use Rattle.smt_text.specs.declared.token.Kind.TheVariants.{Left, Right, Symbol, Keyword}
 use Rattle.smt_text.specs.declared.token.Place.{Place}
@@ -16,14 +17,16 @@ use Rattle.smt_names.specs.declared.stands.Stands.{Stands}
 use Rattle.smt_names.specs.declared.stands.Stands.TheVariants.{Given, Variable}
 use Rattle.smt_names.specs.declared.refusal.Refusal.TheVariants as refusal
 use Rattle.smt_names.specs.Value.{sort_of, self}
-use Rattle.smt_names.specs.Making.{Making, made, ◌>>=◌, ◌>>◌, want, refuse_named, bad_form, not_in_profile, row, node, put_forall}
+use Rattle.smt_names.specs.Making.{Making, made, ◌>>=◌, ◌>>◌, want, refuse_named, bad_form, not_in_profile, row, node,
+    put_forall}
 use Rattle.smt_names.specs.Names.{State, Scope, bound_as, Named, Unknown, named, is_reserved, is_symbol, is_keyword}
 use Rattle.smt_forms.specs.Applied.{applied}
 use Rattle.smt_patterns.specs.Roots.{small_root}
 use Rattle.smt_patterns.specs.Triggers.{rooted_trigger}
 use Rattle.smt_terms.specs.declared.form.Form.{Form}
 use Rattle.smt_terms.specs.declared.form.Form.TheVariants.{Let, Annotated, Universal, Foreign, Application}
-use Rattle.smt_terms.specs.Meant.{Meaning, Meant, End, Token, Group, from, first_place, no_more, at_least, exactly, Listed, other_sort, some_bindings, no_binding, attributes_of}
+use Rattle.smt_terms.specs.Meant.{Meaning, Meant, End, Token, Group, from, first_place, no_more, at_least, exactly,
+    Listed, other_sort, some_bindings, no_binding, attributes_of}
 
 -- Tokens.
 -- what a bound name stands for; inside a forall a formula must have a complement
@@ -38,7 +41,8 @@ stood_for scope at (Variable index sort) = do
 
 -- a name that is not bound: it has no arguments
 abbrev pub free_value : Word → Named → Making Value
-free_value word Unknown = cond (is_reserved word.text) (bad_form word.place) (refuse_named refusal.UnknownName word.place word.text)
+free_value word Unknown = cond (is_reserved word.text) (bad_form word.place)
+    (refuse_named refusal.UnknownName word.place word.text)
 free_value word name = applied word.place word.place word.text name []
 
 abbrev pub name_value : Scope → Word → Option Bound → Making Value
@@ -92,7 +96,8 @@ add_bound name first others = do
 
 -- the values of bindings whose form is right, all in one scope
 abbrev pub bound_values : Scope → Meant → Making (List Bound)
-bound_values scope (Group paren meaning (Token name term) after) = add_bound name.text (value name.place scope term) (bound_values scope after)
+bound_values scope (Group paren meaning (Token name term) after) = add_bound name.text (value name.place scope term)
+    (bound_values scope after)
 bound_values scope trees = made []
 
 abbrev pub let_value : Place → Meant → Meaning
@@ -117,7 +122,8 @@ add_variable name index first others = do
 
 -- the variables of bindings whose form is right, from this index on
 abbrev pub variables_from : State → ℕ → Meant → Making (List Bound)
-variables_from state index (Group paren meaning (Token name given) after) = add_variable name.text index (other_sort state name.place given) (variables_from state (index + 1) after)
+variables_from state index (Group paren meaning (Token name given) after) = add_variable name.text index
+    (other_sort state name.place given) (variables_from state (index + 1) after)
 variables_from state index trees = made []
 
 abbrev pub is_pattern_key : Word → Bool
@@ -135,7 +141,8 @@ attribute_if false attribute = []
 -- the :pattern attributes among some attributes
 abbrev pub patterns_in : Meant → List Attribute
 patterns_in End = []
-patterns_in (Token word trees) = attribute_if (is_pattern_key word) (record { key = word; behind = trees }) ++ patterns_in trees
+patterns_in (Token word trees) = attribute_if (is_pattern_key word) (record { key = word; behind = trees })
+    ++ patterns_in trees
 patterns_in (Group paren meaning inner trees) = patterns_in trees
 
 -- a body, and the :pattern attributes round it, the outer ones first
@@ -170,8 +177,10 @@ add_root first others = do
 -- the roots of patterns, from left to right
 abbrev pub pattern_roots : Scope → Meant → Making (List ℕ)
 pattern_roots scope End = made []
-pattern_roots scope (Token word trees) = add_root (pattern_root word.place (token_value scope word)) (pattern_roots scope trees)
-pattern_roots scope (Group paren meaning inner trees) = add_root (pattern_root paren.place (meaning scope)) (pattern_roots scope trees)
+pattern_roots scope (Token word trees) = add_root (pattern_root word.place (token_value scope word))
+    (pattern_roots scope trees)
+pattern_roots scope (Group paren meaning inner trees) = add_root (pattern_root paren.place (meaning scope))
+    (pattern_roots scope trees)
 
 -- the list of patterns that must stand behind the keyword
 abbrev pub pattern_list : Place → Meant → Making Listed
@@ -268,7 +277,8 @@ form_value paren head parts Application scope = unbound_value paren head parts (
 unfoldable pub list_value : Word → Meant → Meaning
 list_value paren End scope = bad_form paren.place
 list_value paren (Group inner meaning parts trees) scope = not_in_profile inner.place
-list_value paren (Token head parts) scope = cond (is_symbol head.kind) (form_value paren.place head parts (form_of head.text) scope) (bad_form head.place)
+list_value paren (Token head parts) scope = cond (is_symbol head.kind)
+    (form_value paren.place head parts (form_of head.text) scope) (bad_form head.place)
 
 -- Each list in its place gets its meaning, from the inside.
 abbrev pub group_meant : Word → Meant → Meant → Meant

@@ -16,14 +16,17 @@ use Rattle.smt_names.specs.Makes.{Refuses}
 use Rattle.smt_names.specs.Names.{Scope}
 use Rattle.smt_patterns.specs.Triggers.{rooted_trigger}
 use Rattle.smt_terms.specs.Meant.{Meant, End, from, at_least, no_more}
-use Rattle.smt_terms.specs.Terms.{Attribute, value, truth, trigger, triggers, pattern_root, pattern_roots, add_root, some_trigger}
+use Rattle.smt_terms.specs.Terms.{Attribute, value, truth, trigger, triggers, pattern_root, pattern_roots, add_root,
+    some_trigger}
 use Rattle.smt_terms.specs.Cursor.{word_at, here}
 use Rattle.smt_terms.specs.Bodies.{attribute_at}
 use Rattle.smt_terms.specs.Machine.{weight}
 
 -- a tree comes next, a pattern among patterns, and this is the place behind it
 pub record SeesTree (words : List Word) (i after : ℕ) : Type 0 where
-  pub roots : (scope : Scope) (draft : Draft) → pattern_roots scope (here words i) draft ≡ add_root (pattern_root (word_at words i).place (value (word_at words i).place scope (here words i))) (pattern_roots scope (here words after)) draft
+  pub roots : (scope : Scope) (draft : Draft) → pattern_roots scope (here words i) draft
+      ≡ add_root (pattern_root (word_at words i).place (value (word_at words i).place scope (here words i)))
+      (pattern_roots scope (here words after)) draft
   pub less : weight words (here words after) < weight words (here words i)
 
 abbrev pub MaySeeTree : List Word → ℕ → Option ℕ → Type 0
@@ -45,13 +48,19 @@ numbered_trigger scope variables paren inner = do
 
 -- the number of patterns is right, and their trigger is left
 abbrev pub HasNumber : List Word → ℕ → Place → Result (Unit {0}) Stop → Type 0
-HasNumber words i paren (Ok done) = (scope : Scope) (variables : List Bound) (draft : Draft) → numbered_trigger scope variables paren (here words i) draft ≡ listed_trigger scope variables paren (here words i) draft
-HasNumber words i paren (Err stop) = (scope : Scope) (variables : List Bound) (draft : Draft) → Refuses stop (numbered_trigger scope variables paren (here words i) draft)
+HasNumber words i paren (Ok done) = (scope : Scope) (variables : List Bound) (draft : Draft) →
+    numbered_trigger scope variables paren (here words i) draft
+    ≡ listed_trigger scope variables paren (here words i) draft
+HasNumber words i paren (Err stop) = (scope : Scope) (variables : List Bound) (draft : Draft) →
+    Refuses stop (numbered_trigger scope variables paren (here words i) draft)
 
 -- the form of a trigger is right, and its patterns are left
 abbrev pub HasPatterns : List Word → ℕ → Result (Unit {0}) Stop → Type 0
-HasPatterns words key (Ok done) = (scope : Scope) (variables : List Bound) (draft : Draft) → trigger scope variables (attribute_at words key) draft ≡ listed_trigger scope variables (word_at words (key + 1)).place (here words (key + 2)) draft
-HasPatterns words key (Err stop) = (scope : Scope) (variables : List Bound) (draft : Draft) → Refuses stop (trigger scope variables (attribute_at words key) draft)
+HasPatterns words key (Ok done) = (scope : Scope) (variables : List Bound) (draft : Draft) →
+    trigger scope variables (attribute_at words key) draft
+    ≡ listed_trigger scope variables (word_at words (key + 1)).place (here words (key + 2)) draft
+HasPatterns words key (Err stop) = (scope : Scope) (variables : List Bound) (draft : Draft) →
+    Refuses stop (trigger scope variables (attribute_at words key) draft)
 
 -- the forall of these variables, this body and these triggers
 abbrev pub forall_of : (paren head : Place) → ℕ → Value → List Trigger → Making Value

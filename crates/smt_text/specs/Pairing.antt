@@ -1,5 +1,6 @@
 -- How the partners of the tokens of a command are found.
-use Rattle.std.specs.Prelude.{◌≡◌, ◌⊎◌, ℕ, ◌+◌, ◌-◌, ◌<◌, ◌≤◌, ◌^◌, List, [], ◌∷◌, length, slice_index, slice_index_or}
+use Rattle.std.specs.Prelude.{◌≡◌, ◌⊎◌, ℕ, ◌+◌, ◌-◌, ◌<◌, ◌≤◌, ◌^◌, List, [], ◌∷◌, length, slice_index,
+    slice_index_or}
 use Rattle.smt_text.specs.Word.{AreInPlace}
 use Rattle.smt_text.specs.Partners.{opened, closed, span, Closes, IsPartner}
 use Rattle.smt_text.specs.declared.token.Kind.{Kind}
@@ -30,9 +31,11 @@ pub record IsAmong (listed : List ℕ) (i : ℕ) : Type 0 where
 
 -- the token at a place has its partner
 abbrev pub HasPartner : List Kind → List Token → ℕ → Type 0
-HasPartner kinds tokens i = (d : Token) → IsPartner kinds i (slice_index_or tokens i d).partner (slice_index_or kinds i Left)
+HasPartner kinds tokens i = (d : Token) → IsPartner kinds i (slice_index_or tokens i d).partner
+    (slice_index_or kinds i Left)
 
--- Before place n each token has its partner or is listed as open, and those listed are all that are open, the innermost last.
+-- Before place n each token has its partner or is listed as open, and those listed are all that are open, the
+-- innermost last.
 pub record Paired (kinds : List Kind) (tokens : List Token) (listed : List ℕ) (n : ℕ) : Type 0 where
   pub stack : (k : ℕ) → k < length listed → IsOpenAt kinds n (length listed - k) (slice_index listed k)
   pub all : opened (span kinds 0 n) ≡ closed (span kinds 0 n) + length listed

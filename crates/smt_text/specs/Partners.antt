@@ -34,7 +34,8 @@ closed (kind ∷ kinds) = closes kind + closed kinds
 abbrev pub span : List Kind → ℕ → ℕ → List Kind
 span kinds i j = take (j - i) (drop i kinds)
 
--- The parenthesis at i is closed by that at j: the least later place by which as many are closed as were opened since i.
+-- The parenthesis at i is closed by that at j: the least later place by which as many are closed as were opened since
+-- i.
 pub record Closes (kinds : List Kind) (i j : ℕ) : Type 0 where
   pub later : i < j
   pub there : j < length kinds

@@ -15,7 +15,8 @@ at_start = record { inside = Start; seen = 0 }
 pub record HasRead (bytes : List ℕ) (scanner : Scanner) : Type 0 where
   pub begun : HasBegun scanner.inside scanner.seen
   pub within : scanner.seen ≤ length bytes
-  pub goes_on : (more : List ℕ) → lexeme (bytes ++ more) ≡ lexeme_in scanner.inside scanner.seen (drop scanner.seen bytes ++ more)
+  pub goes_on : (more : List ℕ) → lexeme (bytes ++ more)
+      ≡ lexeme_in scanner.inside scanner.seen (drop scanner.seen bytes ++ more)
 
 -- What is found at the front of the bytes: it is so whatever comes after them, or they are read to their end.
 abbrev pub Finds : List ℕ → Scanner → Lexeme → Type 0
