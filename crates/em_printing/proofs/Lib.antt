@@ -1,2 +1,3 @@
+pub mod PrintedLaws
 pub mod TreeSizes
 pub mod Texts

@@ -7,7 +7,7 @@ use Rattle.std.proofs.lemmas.Option.{slice_get_within, slice_get-get_or, get_or_
 use Rattle.graph_terms.specs.declared.term_row.TermRow.{TermRow}
 use Rattle.graph_terms.specs.Terms.{term_row, HasRow, IsTable}
 use Rattle.em_printing.specs.Printed.{HasTreeSize, tree, HaveTreeSize, sizes_none, sizes_more}
-use Rattle.em_printing.specs.PrintedLaws.{args_once, size_once, sizes_once}
+use Rattle.em_printing.proofs.PrintedLaws.{args_once, size_once, sizes_once}
 
 -- an argument is an earlier term
 pub earlier_arg : (rows : List TermRow) (term : ℕ) (row : TermRow) (i x : ℕ) → IsTable rows → HasRow rows term row → slice_get row.args i ≡ Some x → x < term

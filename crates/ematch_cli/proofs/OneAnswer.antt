@@ -9,7 +9,8 @@ use Rattle.formula_draft.specs.Draft.{Formula, IsFormula}
 use Rattle.formula_table.specs.declared.enter_fault.EnterFault.{EnterFault}
 use Rattle.formula_assert.specs.Assertions.{Assertions, no_assertions, pushed, popped}
 use Rattle.formula_assert.specs.AssertFormula.{StopsAssert}
-use Rattle.formula_assert.specs.OutcomeLaws.{AreTables, tables_at_start, tables_pushed, tables_popped, tables_asserted, asserts_formula_once, asserted_not_stopped, stopped_once}
+use Rattle.formula_assert.specs.Tables.{AreTables}
+use Rattle.formula_assert.proofs.OutcomeLaws.{tables_at_start, tables_pushed, tables_popped, tables_asserted, asserts_formula_once, asserted_not_stopped, stopped_once}
 use Rattle.smt_names.specs.Names.{State, at_start}
 use Rattle.smt_names.specs.declared.syntax_fault.SyntaxFault.{SyntaxFault}
 use Rattle.smt_commands.specs.SessionLaws.{IsSound, KeepsSound}

@@ -4,9 +4,9 @@ use Rattle.graph_terms.specs.declared.term_row.TermRow.{TermRow}
 use Rattle.graph_trigger.specs.declared.trigger.Trigger.{Trigger}
 use Rattle.graph_meaning.specs.declared.done.Done.{Done}
 use Rattle.graph_meaning.specs.Standing.{terms_of}
-use Rattle.graph_meaning.specs.OneListLaws.{one_matches}
+use Rattle.graph_meaning.proofs.OneListLaws.{one_matches}
 use Rattle.ematch_cli.specs.Joined.{AreJoined, joined_none, joined_more}
-use Rattle.em_printing.specs.PrintedLaws.{printed_once}
+use Rattle.em_printing.proofs.PrintedLaws.{printed_once}
 use Rattle.ematch_cli.specs.Listing.{line, heading, IsEntry, IsTupleLine, IsTriggerListing, IsListing}
 use Rattle.std.specs.Prelude.{codes}
 

@@ -3,7 +3,7 @@ use Rattle.std.proofs.Common.{◌≡◌, ◌≢◌, inl, inr, ℕ, Bool, true, f
 use Rattle.std.specs.Io.KnownBytes.{Consumes}
 use Rattle.std.proofs.lemmas.List.{append-nil}
 use Rattle.em_outside.specs.Bytes.{Appended}
-use Rattle.em_outside.specs.BytesLaws.{Appended-none, Appended-then, Consumes-none, Consumes-then}
+use Rattle.em_outside.proofs.BytesLaws.{Appended-none, Appended-then, Consumes-none, Consumes-then}
 use Rattle.em_outside.specs.declared.limits.Limits.{Limits}
 use Rattle.smt_text.specs.Word.{Word}
 use Rattle.smt_text.specs.Script.{Script, End, Fault, Command, IsOpen, script_of}

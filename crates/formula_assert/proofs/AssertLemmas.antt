@@ -7,7 +7,7 @@ use Rattle.graph_meaning.specs.State.{GraphState}
 use Rattle.formula_draft.specs.Draft.{Formula, IsFormula}
 use Rattle.formula_table.specs.declared.enter_fault.EnterFault.TheVariants.{Memory}
 use Rattle.formula_table.specs.Entry.{Enters, EntersRows}
-use Rattle.formula_table.specs.StandLaws.{stands_after}
+use Rattle.formula_table.proofs.StandLaws.{stands_after}
 use Rattle.formula_table.specs.Formulas.{Formulas, GrowsTable, NodesStand, first_formulas}
 use Rattle.formula_assert.specs.declared.level.Level.{Level}
 use Rattle.match_graph.specs.GraphTerms.{with_terms}

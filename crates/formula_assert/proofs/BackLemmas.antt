@@ -5,10 +5,10 @@ use Rattle.std.proofs.lemmas.List.Elements.{All-head, All-tail}
 use Rattle.graph_meaning.specs.declared.done.Done.{Done}
 use Rattle.graph_meaning.specs.declared.op.Op.{Op}
 use Rattle.graph_meaning.specs.declared.op.Op.TheVariants.{Add, Merge, Differ, Live, Push, Pop}
-use Rattle.graph_meaning.specs.LawfulLaws.{then_op}
+use Rattle.graph_meaning.proofs.LawfulLaws.{then_op}
 use Rattle.graph_meaning.specs.Standing.{is_push}
 use Rattle.graph_meaning.specs.State.{GraphState, replay, state_after}
-use Rattle.graph_terms.specs.ListLaws.{slice_get-push}
+use Rattle.graph_terms.proofs.ListLaws.{slice_get-push}
 use Rattle.formula_assert.specs.InLevel.{IsInLevel, GrowsGraph}
 use Rattle.formula_assert.proofs.Growth.{grows_none, grows_both, grows_by}
 

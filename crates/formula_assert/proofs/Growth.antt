@@ -8,9 +8,9 @@ use Rattle.graph_meaning.specs.declared.done.Done.{Done}
 use Rattle.graph_terms.specs.declared.term_row.TermRow.{TermRow}
 use Rattle.graph_meaning.specs.declared.op.Op.{Op}
 use Rattle.graph_meaning.specs.declared.op.Op.TheVariants.{Add, Merge, Differ, Live, Push, Pop}
-use Rattle.graph_meaning.specs.LawfulLaws.{then_op, terms_of-push}
-use Rattle.graph_terms.specs.ListLaws.{before_last-hit, before_last-miss}
-use Rattle.graph_meaning.specs.ReplayLaws.{replay-append}
+use Rattle.graph_meaning.proofs.LawfulLaws.{then_op, terms_of-push}
+use Rattle.graph_terms.proofs.ListLaws.{before_last-hit, before_last-miss}
+use Rattle.graph_meaning.proofs.ReplayLaws.{replay-append}
 use Rattle.graph_meaning.specs.Standing.{is_push, levels_of, terms_of, rows_added, standing_after}
 use Rattle.graph_meaning.specs.State.{GraphState, replay, state_after}
 use Rattle.formula_table.specs.declared.node.Node.{Node}

@@ -1,3 +1,5 @@
+pub mod AssertsLaws
+pub mod OutcomeLaws
 pub mod Growth
 pub mod BackLemmas
 pub mod WorkLemmas

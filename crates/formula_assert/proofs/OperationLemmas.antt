@@ -8,8 +8,8 @@ use Rattle.graph_trigger.specs.Trigger.{IsValid}
 use Rattle.graph_trigger.specs.declared.trigger.Trigger.{Trigger}
 use Rattle.graph_meaning.specs.declared.op.Op.{Op}
 use Rattle.graph_meaning.specs.declared.op.Op.TheVariants.{Merge, Differ, Live}
-use Rattle.graph_terms.specs.ListLaws.{take-slice_get}
-use Rattle.graph_meaning.specs.ReplayLaws.{replay-push}
+use Rattle.graph_terms.proofs.ListLaws.{take-slice_get}
+use Rattle.graph_meaning.proofs.ReplayLaws.{replay-push}
 use Rattle.graph_meaning.specs.State.{GraphState, replay, state_after}
 use Rattle.formula_table.specs.declared.node.Node.{Node}
 use Rattle.formula_table.specs.declared.node.Node.TheVariants.{Equal, Atom}

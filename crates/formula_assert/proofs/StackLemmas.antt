@@ -12,8 +12,8 @@ use Rattle.formula_draft.specs.Draft.{Formula}
 use Rattle.formula_table.specs.declared.enter_fault.EnterFault.{EnterFault}
 use Rattle.formula_table.specs.declared.enter_fault.EnterFault.TheVariants.{TermsFull, NodesFull, Memory}
 use Rattle.formula_table.specs.Entry.{StopsEntry, TableGrows}
-use Rattle.graph_meaning.specs.LawfulLaws.{then_op}
-use Rattle.graph_terms.specs.ListLaws.{slice_get-take_below}
+use Rattle.graph_meaning.proofs.LawfulLaws.{then_op}
+use Rattle.graph_terms.proofs.ListLaws.{slice_get-take_below}
 use Rattle.graph_meaning.specs.Standing.{is_push, levels_of, terms_of}
 use Rattle.formula_table.specs.declared.node.Node.{Node}
 use Rattle.formula_table.specs.declared.node.Node.TheVariants.{Forall}

@@ -1,10 +1,9 @@
 pub mod Held
 pub mod Asserts
 pub mod Assertions
+pub mod Tables
 pub mod AssertFormula
 pub mod InLevel
 pub mod Stands
 pub mod WorkList
 pub mod StackInside
-pub mod AssertsLaws
-pub mod OutcomeLaws

@@ -8,7 +8,7 @@ ghost use Rattle.formula_assert.specs.Held.{Held};
 ghost use Rattle.formula_assert.specs.Asserts.{Asserts};
 ghost use Rattle.formula_assert.specs.Assertions.{Assertions, no_assertions, pushed, popped};
 ghost use Rattle.formula_assert.specs.AssertFormula.{AssertsFormula, StopsAssert};
-ghost use Rattle.formula_assert.specs.OutcomeLaws.{AreTables};
+ghost use Rattle.formula_assert.specs.Tables.{AreTables};
 ghost use Rattle.formula_assert.specs.Stands.{AreAssertions};
 ghost use Rattle.formula_assert.specs.InLevel.{KeepsLevels, StandAlike};
 

@@ -1,11 +1,6 @@
 pub mod Items
-pub mod ItemLaws
 pub mod DraftRow
 pub mod DraftNode
-pub mod SameLaws
 pub mod Reach
-pub mod ReachLaws
 pub mod Draft
 pub mod DraftInside
-pub mod DraftLaws
-pub mod KeptLaws

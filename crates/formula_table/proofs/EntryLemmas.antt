@@ -5,7 +5,7 @@ use Rattle.std.proofs.lemmas.Bool.{cases_lt}
 use Rattle.std.proofs.lemmas.List.{length-append}
 use Rattle.std.proofs.lemmas.List.Elements.{All-weaker}
 use Rattle.std.proofs.lemmas.Option.{same_Some, slice_get_within}
-use Rattle.graph_terms.specs.ListLaws.{push_cases}
+use Rattle.graph_terms.proofs.ListLaws.{push_cases}
 use Rattle.graph_terms.specs.declared.term_row.TermRow.{TermRow}
 use Rattle.graph_terms.specs.Terms.{HasRow, term_row}
 use Rattle.graph_terms.specs.TermEntry.{AddGrows}
@@ -20,7 +20,7 @@ use Rattle.formula_table.specs.Entry.{BecomesRow, EntersRows, entered_row, Lacks
 use Rattle.formula_table.specs.declared.enter_fault.EnterFault.{EnterFault}
 use Rattle.formula_table.specs.declared.enter_fault.EnterFault.TheVariants.{TermsFull, NodesFull, Memory}
 use Rattle.formula_table.specs.EntryInside.{NumbersStand, RowGrows, StopsTerm, StopsRow, StopsRows}
-use Rattle.formula_table.specs.BecomesLaws.{row_becomes}
+use Rattle.formula_table.proofs.BecomesLaws.{row_becomes}
 use Rattle.formula_table.proofs.InOrderLemmas.{none_in_order, next_in_order, map_index-push, index-push, index-last}
 
 -- what follows from the value follows of the result

@@ -7,7 +7,7 @@ use Rattle.std.proofs.lemmas.List.Elements.{Contains-push, Contains-push_cases, 
 use Rattle.std.proofs.lemmas.List.Quantifiers.{all_pairs_push}
 use Rattle.std.proofs.lemmas.Option.{none-some, same_Some, slice_get_within, slice_get-get_or}
 use Rattle.graph_trigger.specs.declared.trigger.Trigger.{Trigger}
-use Rattle.graph_terms.specs.ListLaws.{element_at, slice_get-append_left, slice_get-push, push_cases, place_from_Contains, Contains-slice_get}
+use Rattle.graph_terms.proofs.ListLaws.{element_at, slice_get-append_left, slice_get-push, push_cases, place_from_Contains, Contains-slice_get}
 use Rattle.formula_draft.specs.declared.draft_forall.DraftForall.{DraftForall}
 use Rattle.formula_draft.specs.Draft.{Formula}
 use Rattle.formula_table.specs.declared.table_forall.TableForall.{TableForall}

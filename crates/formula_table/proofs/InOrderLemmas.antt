@@ -5,7 +5,7 @@ use Rattle.std.proofs.lemmas.Bool.{cases_lt}
 use Rattle.std.proofs.lemmas.List.{length-append}
 use Rattle.std.proofs.lemmas.List.Quantifiers.{all_pairs_push}
 use Rattle.std.proofs.lemmas.Option.{none-some, slice_get_within, slice_get-get_or}
-use Rattle.graph_terms.specs.ListLaws.{slice_get-append_left, slice_get-push, push_cases, element_at}
+use Rattle.graph_terms.proofs.ListLaws.{slice_get-append_left, slice_get-push, push_cases, element_at}
 use Rattle.formula_table.specs.InOrder.{AreInOrder, StandsNowhere, PutsNext}
 use Rattle.formula_table.specs.InOrder.PutsNext.{nothing, put_last, stood}
 

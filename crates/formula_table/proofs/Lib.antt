@@ -1,3 +1,9 @@
+pub mod InOrderLaws
+pub mod FormulaLaws
+pub mod ForallLaws
+pub mod BecomesLaws
+pub mod EntryLaws
+pub mod StandLaws
 pub mod Same
 pub mod TableLemmas
 pub mod MarkLemmas

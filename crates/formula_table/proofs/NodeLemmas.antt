@@ -6,15 +6,15 @@ use Rattle.std.proofs.lemmas.Bool.{cases_lt}
 use Rattle.std.proofs.lemmas.List.{length-append}
 use Rattle.std.proofs.lemmas.List.Elements.{All-weaker}
 use Rattle.std.proofs.lemmas.Option.{none-some, same_Some}
-use Rattle.graph_terms.specs.ListLaws.{element_at}
+use Rattle.graph_terms.proofs.ListLaws.{element_at}
 use Rattle.formula_draft.specs.declared.draft_node.DraftNode.{DraftNode}
 use Rattle.formula_draft.specs.declared.draft_node.DraftNode.TheVariants.{Equal, Atom, And, Or, Forall}
 use Rattle.formula_draft.specs.DraftNode.{parts_of}
 use Rattle.formula_draft.specs.Items.{with_item}
-use Rattle.formula_draft.specs.ItemLaws.{put_cases}
-use Rattle.formula_draft.specs.SameLaws.{found_at, absent}
+use Rattle.formula_draft.proofs.ItemLaws.{put_cases}
+use Rattle.formula_draft.proofs.SameLaws.{found_at, absent}
 use Rattle.formula_draft.specs.Reach.{ReachesNode}
-use Rattle.formula_draft.specs.ReachLaws.{node_stands}
+use Rattle.formula_draft.proofs.ReachLaws.{node_stands}
 use Rattle.formula_draft.specs.Draft.{Formula, IsFormula}
 use Rattle.formula_table.specs.declared.node.Node.{Node}
 use Rattle.formula_table.specs.declared.node.Node.TheVariants as entered

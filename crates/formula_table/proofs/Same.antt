@@ -2,7 +2,7 @@
 use Rattle.std.proofs.Common.{◌≡◌, ◌&&◌, nat_eq, get_or, refl, ap, ap₂, arith}
 use Rattle.std.specs.Cmp.Lexicographic.{pointwise}
 use Rattle.formula_draft.specs.DraftNode.{sign_of}
-use Rattle.formula_draft.specs.SameLaws.{Tells, tells_by_keys, and_true, sign_from}
+use Rattle.formula_draft.proofs.SameLaws.{Tells, tells_by_keys, and_true, sign_from}
 use Rattle.formula_table.specs.declared.node.Node.{Node}
 use Rattle.formula_table.specs.declared.node.Node.TheVariants as at
 use Rattle.formula_table.specs.Node.{same_entered, entered_key}

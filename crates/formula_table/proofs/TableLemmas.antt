@@ -2,16 +2,16 @@
 use Rattle.std.proofs.Common.{◌≡◌, ℕ, ◌<◌, ◌≤◌, List, [], ◌∷◌, length, take, Some, sym, subst, ⊎_elim, arith}
 use Rattle.std.proofs.lemmas.List.{length-take, length-append}
 use Rattle.std.proofs.lemmas.Option.{slice_get_within}
-use Rattle.graph_terms.specs.ListLaws.{slice_get-take, push_cases}
+use Rattle.graph_terms.proofs.ListLaws.{slice_get-take, push_cases}
 use Rattle.formula_table.specs.declared.node.Node.TheVariants.{Equal, Forall}
 use Rattle.formula_table.specs.declared.node.Node.{Node}
 use Rattle.formula_table.specs.declared.table_forall.TableForall.{TableForall}
 use Rattle.formula_draft.specs.Items.{with_item}
 use Rattle.formula_table.specs.Node.{same_entered}
-use Rattle.formula_table.specs.FormulaLaws.{IsFormulaTable-push}
+use Rattle.formula_table.proofs.FormulaLaws.{IsFormulaTable-push}
 use Rattle.formula_table.specs.Formulas.{Formulas, IsFormulaTable, IsForallOf, NamesFirst, FitsTable, first_formulas, with_foralls}
-use Rattle.formula_draft.specs.ItemLaws.{put_cases}
-use Rattle.formula_draft.specs.SameLaws.{absent}
+use Rattle.formula_draft.proofs.ItemLaws.{put_cases}
+use Rattle.formula_draft.proofs.SameLaws.{absent}
 use Rattle.formula_table.proofs.Same.{entered_told}
 
 -- the first formulas of a table are a table

@@ -1,14 +1,8 @@
 pub mod InOrder
-pub mod InOrderLaws
 pub mod Node
 pub mod Formulas
-pub mod FormulaLaws
 pub mod TableInside
 pub mod Marks
 pub mod EnterFault
 pub mod Entry
-pub mod ForallLaws
-pub mod BecomesLaws
-pub mod EntryLaws
-pub mod StandLaws
 pub mod EntryInside

@@ -6,8 +6,8 @@ use Rattle.formula_draft.specs.declared.draft_row.DraftRow.TheVariants.{Var, App
 use Rattle.formula_draft.specs.declared.draft_node.DraftNode.{DraftNode}
 use Rattle.formula_draft.specs.declared.draft_node.DraftNode.TheVariants.{Atom}
 use Rattle.formula_draft.specs.Draft.{Draft, FitsRow, FitsNode, IsClosed, IsDraft, IsFormula, empty_draft, finished, with_row, with_node}
-use Rattle.formula_draft.specs.DraftLaws.{row_stands_at, node_stands_at}
-use Rattle.formula_draft.specs.KeptLaws.{IsDraft-with_row, IsDraft-with_node}
+use Rattle.formula_draft.proofs.DraftLaws.{row_stands_at, node_stands_at}
+use Rattle.formula_draft.proofs.KeptLaws.{IsDraft-with_row, IsDraft-with_node}
 
 -- no rows or arguments are named
 none_named : (P : ℕ → Type 0) → All P []

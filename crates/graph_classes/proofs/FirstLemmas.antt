@@ -2,7 +2,7 @@
 use Rattle.std.proofs.Common.{◌≡◌, ◌<◌, ◌≤◌, ◌⊎◌, inl, inr, ℕ, List, [], ◌∷◌, length, Some, None, slice_get, slice_index, Contains, zero, suc, refl, sym, ◌∙◌, ap, subst, arith}
 use Rattle.graph_terms.specs.declared.term_row.TermRow.{TermRow}
 use Rattle.graph_terms.specs.Terms.{term_row, first_rows, HasRow}
-use Rattle.graph_meaning.specs.LawfulLaws.{IsLawful-first}
+use Rattle.graph_meaning.proofs.LawfulLaws.{IsLawful-first}
 use Rattle.graph_meaning.specs.declared.done.Done.{Done}
 use Rattle.graph_meaning.specs.Lawful.{IsLawful}
 use Rattle.graph_meaning.specs.Same.{Derives, same_term, none}

@@ -4,7 +4,7 @@ use Rattle.graph_meaning.specs.declared.done.Done.{Done}
 use Rattle.graph_meaning.specs.declared.op.Op.{Op}
 use Rattle.graph_meaning.specs.declared.op.Op.TheVariants.{Merge}
 use Rattle.graph_meaning.specs.Lawful.{Allows, IsLawful}
-use Rattle.graph_meaning.specs.LawfulLaws.{terms_of-push, merges_of-push, IsLawful-push}
+use Rattle.graph_meaning.proofs.LawfulLaws.{terms_of-push, merges_of-push, IsLawful-push}
 use Rattle.graph_meaning.specs.Standing.{then_op, terms_of, merges_of, rows_added, merges_added}
 use Rattle.graph_classes.specs.State.{State}
 use Rattle.graph_classes.specs.Indexed.{IsIndexed, IsClosing}

@@ -3,7 +3,7 @@ use Rattle.std.proofs.Common.{◌≡◌, ◌≤◌, ◌<◌, ◌+◌, ◌⊎◌,
 use Rattle.std.proofs.lemmas.Option.{slice_get_within}
 use Rattle.graph_meaning.specs.declared.done.Done.{Done}
 use Rattle.graph_meaning.specs.Lawful.{IsLawful}
-use Rattle.graph_terms.specs.ListLaws.{place_from_Contains, Contains-slice_get}
+use Rattle.graph_terms.proofs.ListLaws.{place_from_Contains, Contains-slice_get}
 use Rattle.graph_meaning.specs.Same.{Same}
 use Rattle.graph_meaning.specs.Standing.{terms_of, differs_of}
 use Rattle.graph_congruence.specs.Clash.{apart_of, NoneSame}

@@ -6,9 +6,9 @@ use Rattle.std.proofs.lemmas.List.Sums.{sum_by-append}
 use Rattle.graph_meaning.specs.declared.done.Done.{Done}
 use Rattle.graph_meaning.specs.declared.op.Op.{Op}
 use Rattle.graph_trigger.specs.declared.trigger.Trigger.{Trigger}
-use Rattle.graph_meaning.specs.LawfulLaws.{triggers_of-push, differs_of-push}
+use Rattle.graph_meaning.proofs.LawfulLaws.{triggers_of-push, differs_of-push}
 use Rattle.graph_meaning.specs.Standing.{then_op, is_push, live_trigger, levels_of, triggers_of, triggers_added, differs_added}
-use Rattle.graph_terms.specs.ListLaws.{take-slice_get, before_last-hit, before_last-miss}
+use Rattle.graph_terms.proofs.ListLaws.{take-slice_get, before_last-hit, before_last-miss}
 use Rattle.graph_meaning.specs.State.{GraphState}
 use Rattle.graph_congruence.specs.Clash.{apart_of}
 use Rattle.graph_congruence.specs.Last.{DropsLast, IsLastShare}

@@ -6,12 +6,12 @@ use Rattle.std.proofs.lemmas.List.Elements.{All-nil, All-push, All-take}
 use Rattle.std.proofs.lemmas.List.Quantifiers.{all_pairs_push}
 use Rattle.std.proofs.lemmas.Option.{slice_get_within}
 use Rattle.std.specs.Option.{option_map_or}
-use Rattle.graph_terms.specs.ListLaws.{element_at, push_cases, slice_get-take, All-slice_get}
+use Rattle.graph_terms.proofs.ListLaws.{element_at, push_cases, slice_get-take, All-slice_get}
 use Rattle.graph_meaning.specs.declared.done.Done.{Done}
 use Rattle.graph_meaning.specs.declared.op.Op.{Op}
 use Rattle.graph_meaning.specs.declared.op.Op.TheVariants.{Add, Merge, Differ, Live, Push, Pop}
 use Rattle.graph_meaning.specs.Front.{front_of, HasSerials, StillStands}
-use Rattle.graph_meaning.specs.ReplayLaws.{replay-append}
+use Rattle.graph_meaning.proofs.ReplayLaws.{replay-append}
 use Rattle.graph_meaning.specs.Standing.{standing_from, standing_of, then_op}
 use Rattle.graph_meaning.specs.State.{GraphState, first_state, replay, state_after}
 

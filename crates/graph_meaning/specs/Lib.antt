@@ -10,7 +10,3 @@ pub mod Lawful
 pub mod State
 pub mod Questions
 pub mod Front
-pub mod OrderLaws
-pub mod LawfulLaws
-pub mod OneListLaws
-pub mod ReplayLaws

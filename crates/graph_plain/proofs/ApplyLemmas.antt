@@ -17,7 +17,7 @@ use Rattle.graph_plain.specs.Labels.{AreOwn, label_of, AreSound, AreMerged, AreC
 use Rattle.graph_meaning.specs.Lawful.{EndsBelow}
 use Rattle.graph_meaning.specs.Lawful.{Allows, IsLawful}
 use Rattle.graph_plain.specs.PlainInside.{AreKept}
-use Rattle.graph_meaning.specs.LawfulLaws.{terms_of-push, merges_of-push, IsLawful-first, IsLawful-take, IsLawful-push}
+use Rattle.graph_meaning.proofs.LawfulLaws.{terms_of-push, merges_of-push, IsLawful-first, IsLawful-take, IsLawful-push}
 use Rattle.graph_plain.proofs.SameLemmas.{AreSound-merges, AreSound-row}
 
 module _ (rows : List TermRow) (merges : List (ℕ × ℕ)) (labels : List ℕ) where

@@ -16,7 +16,7 @@ use Rattle.graph_plain.specs.declared.pick.Pick.TheVariants.{Class, Symbol, Pare
 use Rattle.graph_plain.specs.Picks.{IsPicked}
 use Rattle.graph_meaning.specs.Questions.{AreAll}
 use Rattle.graph_plain.proofs.SameLemmas.{one_label, derive}
-use Rattle.graph_terms.specs.ListLaws.{get_or-any, slice_get-push, slice_get-push_other}
+use Rattle.graph_terms.proofs.ListLaws.{get_or-any, slice_get-push, slice_get-push_other}
 
 -- what is derived is about terms
 pub derives_terms : {rows : List TermRow} {merges : List (ℕ × ℕ)} → EndsBelow merges (length rows) → {s t : ℕ} → Derives rows merges s t → (s < length rows) × (t < length rows)

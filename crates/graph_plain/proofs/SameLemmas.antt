@@ -5,7 +5,7 @@ use Rattle.std.proofs.lemmas.List.Sums.{sum_by-cons}
 use Rattle.std.proofs.lemmas.Bool.Decides.{eqb_tells}
 use Rattle.std.proofs.lemmas.List.{get_or-map, length-map, length-append, get_or_append_left}
 use Rattle.std.proofs.Math.Seq.{get_or-append_seam}
-use Rattle.graph_terms.specs.ListLaws.{slice_get-append_left}
+use Rattle.graph_terms.proofs.ListLaws.{slice_get-append_left}
 use Rattle.std.proofs.lemmas.List.Elements.{All-head, All-tail, All-weaker, Contains-append_left}
 use Rattle.std.proofs.lemmas.Option.{slice_get_within}
 use Rattle.graph_terms.specs.declared.term_row.TermRow.{TermRow}

@@ -4,7 +4,7 @@ use Rattle.std.specs.List.{filter_map, cons_option}
 use Rattle.std.proofs.lemmas.Option.{none-some, same_Some}
 use Rattle.std.proofs.lemmas.List.{take_more, take-append-drop, length-append}
 use Rattle.std.specs.Option.{option_map}
-use Rattle.graph_terms.specs.ListLaws.{slice_get-append_left, slice_get-push}
+use Rattle.graph_terms.proofs.ListLaws.{slice_get-append_left, slice_get-push}
 use Rattle.std.proofs.lemmas.List.Elements.{Contains-get_or, Contains-append_right, Contains-append_cases, filter_map-append}
 use Rattle.graph_meaning.specs.declared.done.Done.{Done}
 use Rattle.graph_meaning.specs.Standing.{merged_ends, merges_of}

@@ -1,1 +1,3 @@
+pub mod ListLaws
+pub mod TableLaws
 pub mod TableLemmas

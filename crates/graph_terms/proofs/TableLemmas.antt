@@ -10,8 +10,8 @@ use Rattle.std.proofs.lemmas.List.{take-map, length-append}
 use Rattle.graph_terms.specs.declared.term_row.TermRow.{TermRow}
 use Rattle.graph_terms.specs.Terms.{most_args, term_row, HasRow, IsAbsent, IsTable, Table, Takes}
 use Rattle.graph_terms.specs.Entries.{key_of, IsKeyed, PutsRow}
-use Rattle.graph_terms.specs.ListLaws.{slice_get-push, push_cases, slice_get-take, element_at}
-use Rattle.graph_terms.specs.TableLaws.{IsTable-push}
+use Rattle.graph_terms.proofs.ListLaws.{slice_get-push, push_cases, slice_get-take, element_at}
+use Rattle.graph_terms.proofs.TableLaws.{IsTable-push}
 use Rattle.indexmap.proofs.MapLemmas.{Found-position}
 
 abbrev Entry : Type 0

@@ -2,5 +2,3 @@ pub mod Terms
 pub mod TermEntry
 pub mod Entries
 pub mod TableInside
-pub mod ListLaws
-pub mod TableLaws

@@ -7,7 +7,7 @@ use Rattle.graph_trigger.specs.declared.pattern_row.PatternRow.{PatternRow}
 use Rattle.graph_trigger.specs.declared.pattern_row.PatternRow.TheVariants.{Var, App}
 use Rattle.graph_trigger.specs.Trigger.{HasSize, HaveSize, variable, application, none, more}
 use Rattle.graph_trigger.specs.Validity.{NameEarlier, IsSize, IsLarge}
-use Rattle.graph_terms.specs.ListLaws.{element_at, take-slice_get}
+use Rattle.graph_terms.proofs.ListLaws.{element_at, take-slice_get}
 
 same_parts : (f g : ℕ) (ps qs : List ℕ) → App f ps ≡ App g qs → ps ≡ qs
 same_parts f g ps qs same = cc

@@ -8,7 +8,7 @@ use Rattle.graph_trigger.specs.declared.pattern_row.PatternRow.TheVariants.{Var,
 use Rattle.graph_trigger.specs.declared.trigger.Trigger.{Trigger}
 use Rattle.graph_trigger.specs.Trigger.{Occurs, at_root, below, HasSize, IsApplication, IsValid}
 use Rattle.graph_trigger.specs.Validity.{AreApplications, AreNew, AreReached, AreSmall, FitRows, HaveVariables, IsPart, IsReached, IsSize, NameEarlier}
-use Rattle.graph_terms.specs.ListLaws.{element_at, place_from_Contains, Contains-slice_get, All-slice_get}
+use Rattle.graph_terms.proofs.ListLaws.{element_at, place_from_Contains, Contains-slice_get, All-slice_get}
 use Rattle.graph_trigger.proofs.SizeLemmas.{one_size}
 
 -- what holds of each number at a place holds of all

@@ -4,7 +4,7 @@ use Rattle.std.proofs.lemmas.Option.{none-some, same_Some, slice_get_within, sli
 use Rattle.std.proofs.lemmas.List.{take_all, take-append-le, get_or_append_left, length-set}
 use Rattle.std.proofs.lemmas.List.Quantifiers.{all_pairs_push}
 use Rattle.std.proofs.lemmas.List.Elements.{Contains-append_left, Contains-push, Contains-push_cases, Contains-get_or}
-use Rattle.graph_terms.specs.ListLaws.{slice_get-append_left, slice_get-push, push_cases, take-slice_get}
+use Rattle.graph_terms.proofs.ListLaws.{slice_get-append_left, slice_get-push, push_cases, take-slice_get}
 use Rattle.graph_meaning.specs.Questions.{AreAll}
 use Rattle.match_forest.specs.Index.{IsIndexed, GrewEmpty}
 

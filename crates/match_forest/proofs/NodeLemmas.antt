@@ -4,7 +4,7 @@ use Rattle.std.proofs.lemmas.Option.{none-some, same_Some, slice_get_within}
 use Rattle.std.proofs.lemmas.List.{take_all, take-take, take-append-le, map-append, take-map, length-map, length-take-le, get_or_default}
 use Rattle.std.proofs.lemmas.List.Elements.{Contains-get_or}
 use Rattle.match_code.specs.declared.instr.Instr.{Instr}
-use Rattle.graph_terms.specs.ListLaws.{slice_get-append_left, slice_get-push, push_cases, slice_get-take, place_from_Contains, element_at}
+use Rattle.graph_terms.proofs.ListLaws.{slice_get-append_left, slice_get-push, push_cases, slice_get-take, place_from_Contains, element_at}
 use Rattle.graph_meaning.specs.Questions.{AreAll}
 use Rattle.match_forest.specs.Trees.{Trees, IsRoot, IsNext, Path, here, down, Way, AreJoined, AreTrees, trees_front, with_node}
 use Rattle.match_forest.specs.NodesInside.{above_of, Extends, Puts, Leads}

@@ -2,7 +2,7 @@
 use Rattle.std.proofs.Common.{◌≡◌, ℕ, zero, suc, ◌+◌, ◌<◌, ◌⊎◌, inl, inr, ⊎_elim, List, [], ◌∷◌, ◌++◌, length, take, ◌≤◌, slice_get, Option, Some, None, refl, sym, ap, subst, ◌∙◌, arith}
 use Rattle.std.proofs.lemmas.Option.{none-some, same_Some, slice_get_within}
 use Rattle.match_code.specs.declared.instr.Instr.{Instr}
-use Rattle.graph_terms.specs.ListLaws.{slice_get-append_left, slice_get-push, push_cases, slice_get-take, slice_get-take_below}
+use Rattle.graph_terms.proofs.ListLaws.{slice_get-append_left, slice_get-push, push_cases, slice_get-take, slice_get-take_below}
 use Rattle.match_forest.specs.Trees.{Trees, IsRoot, IsNext, Path, here, down, Way, AreJoined, AreTrees, trees_front, with_node}
 
 -- a path of one node, or of more

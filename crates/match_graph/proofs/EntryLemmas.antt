@@ -6,8 +6,8 @@ use Rattle.graph_terms.specs.declared.term_row.TermRow.{TermRow}
 use Rattle.graph_meaning.specs.declared.op.Op.TheVariants.{Add}
 use Rattle.graph_meaning.specs.declared.union.Union.{Union}
 use Rattle.graph_terms.specs.TermEntry.{AddGrows}
-use Rattle.graph_meaning.specs.LawfulLaws.{terms_of-push, triggers_of-push}
-use Rattle.graph_terms.specs.ListLaws.{slice_get-push}
+use Rattle.graph_meaning.proofs.LawfulLaws.{terms_of-push, triggers_of-push}
+use Rattle.graph_terms.proofs.ListLaws.{slice_get-push}
 use Rattle.graph_meaning.specs.Standing.{terms_of, triggers_of}
 use Rattle.graph_meaning.specs.State.{GraphState, state_after}
 use Rattle.graph_congruence.specs.Operations.{Adds, new_row, old_row}

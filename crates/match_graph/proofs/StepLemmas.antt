@@ -8,7 +8,7 @@ use Rattle.graph_meaning.specs.declared.done.Done.{Done}
 use Rattle.graph_meaning.specs.declared.op.Op.{Op}
 use Rattle.graph_meaning.specs.declared.op.Op.TheVariants.{Add, Merge, Differ, Live, Push, Pop}
 use Rattle.graph_trigger.specs.declared.trigger.Trigger.{Trigger}
-use Rattle.graph_meaning.specs.LawfulLaws.{triggers_of-push}
+use Rattle.graph_meaning.proofs.LawfulLaws.{triggers_of-push}
 use Rattle.graph_meaning.specs.Standing.{is_push, live_trigger, standing_after, triggers_of}
 
 -- the live triggers of a front are the first ones

@@ -1,7 +1,7 @@
 -- What a graph that gained terms keeps, and that gains add up.
 use Rattle.std.proofs.Common.{◌≡◌, List, [], ◌∷◌, ◌++◌, refl, sym, ap, ◌∙◌, append-nil, append_assoc}
 use Rattle.graph_terms.specs.declared.term_row.TermRow.{TermRow}
-use Rattle.graph_meaning.specs.LawfulLaws.{terms_of-push}
+use Rattle.graph_meaning.proofs.LawfulLaws.{terms_of-push}
 use Rattle.graph_meaning.specs.Standing.{terms_of}
 use Rattle.graph_meaning.specs.State.{GraphState, state_after}
 use Rattle.match_graph.specs.GraphTerms.{adding, with_terms}

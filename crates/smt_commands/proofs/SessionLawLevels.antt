@@ -2,7 +2,7 @@
 use Rattle.std.proofs.Common.{◌≡◌, ℕ, zero, suc, ◌≤◌, List, [], ◌∷◌, ◌++◌, length, take, drop, reverse, replicate, get_or, ⊎_elim, sym, ap, subst, ◌∙◌, append_assoc, append-nil, length-append, take-append-drop, take_all, get_or-drop, add-zero, arith}
 use Rattle.std.proofs.lemmas.List.{take-append-le, reverse-append}
 use Rattle.std.proofs.lemmas.List.Elements.{All-nil, All-cons, All-append, All-weaker}
-use Rattle.graph_terms.specs.ListLaws.{push_cases}
+use Rattle.graph_terms.proofs.ListLaws.{push_cases}
 use Rattle.smt_names.specs.declared.level.Level.{Level}
 use Rattle.smt_names.specs.Names.{Declared, Defined}
 use Rattle.smt_laws.specs.Sound.{IsFunction, IsDefinition, AreDeclared}

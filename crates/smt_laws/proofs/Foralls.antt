@@ -2,7 +2,7 @@
 use Rattle.std.proofs.Common.{◌≡◌, ℕ, zero, suc, ◌+◌, ◌<◌, ◌≤◌, Bool, true, false, cond, not, ◌||◌, ◌==◌, nat_le, List, [], ◌∷◌, ◌++◌, length, get_or, slice_get, Some, None, Result, All, refl, sym, ap, subst, ◌∙◌, append-nil, length-append, true≢false, arith}
 use Rattle.std.proofs.lemmas.Option.{none-some, same_Some, slice_get_within, slice_get-get_or}
 use Rattle.std.proofs.lemmas.List.Elements.{All-nil, All-cons, All-append, All-weaker}
-use Rattle.graph_terms.specs.ListLaws.{slice_get-push, All-slice_get}
+use Rattle.graph_terms.proofs.ListLaws.{slice_get-push, All-slice_get}
 use Rattle.graph_trigger.specs.declared.trigger.Trigger.{Trigger}
 use Rattle.graph_trigger.specs.Trigger.{IsValid}
 use Rattle.smt_text.specs.declared.token.Place.{Place}
@@ -12,7 +12,7 @@ use Rattle.formula_draft.specs.declared.draft_node.DraftNode.{DraftNode}
 use Rattle.formula_draft.specs.declared.draft_node.DraftNode.TheVariants.{Equal, Atom, And, Or, Forall}
 use Rattle.formula_draft.specs.declared.draft_forall.DraftForall.{DraftForall}
 use Rattle.formula_draft.specs.Draft.{Draft, FitsTrigger, FitsForall, draft_forall}
-use Rattle.formula_draft.specs.KeptLaws.{IsDraft-with_forall}
+use Rattle.formula_draft.proofs.KeptLaws.{IsDraft-with_forall}
 use Rattle.smt_names.specs.declared.value.Value.{Value}
 use Rattle.smt_names.specs.declared.value.Value.TheVariants.{Term, Formula}
 use Rattle.smt_names.specs.declared.bound.Bound.{Bound}

@@ -3,7 +3,7 @@ use Rattle.std.proofs.Common.{◌≡◌, ℕ, ◌<◌, List, [], ◌++◌, map, 
 use Rattle.std.proofs.lemmas.List.{append-nil, append_assoc}
 use Rattle.std.proofs.lemmas.Option.{slice_get_within, none-some}
 use Rattle.std.proofs.lemmas.List.Elements.{All-weaker}
-use Rattle.graph_terms.specs.ListLaws.{slice_get-append_left}
+use Rattle.graph_terms.proofs.ListLaws.{slice_get-append_left}
 use Rattle.graph_trigger.specs.declared.trigger.Trigger.{Trigger}
 use Rattle.formula_draft.specs.declared.draft_row.DraftRow.{DraftRow}
 use Rattle.formula_draft.specs.declared.draft_node.DraftNode.{DraftNode}

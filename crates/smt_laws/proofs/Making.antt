@@ -1,17 +1,17 @@
 -- Making that keeps a draft sound.
 use Rattle.std.proofs.Common.{◌≡◌, ℕ, ◌⊎◌, ⊎_elim, inl, inr, Bool, true, false, List, [], ◌∷◌, ◌++◌, length, slice_get, Option, Some, None, Result, Ok, Err, refl, sym, subst, append-nil}
 use Rattle.std.specs.Option.{option_map}
-use Rattle.graph_terms.specs.ListLaws.{slice_get-push, push_cases}
+use Rattle.graph_terms.proofs.ListLaws.{slice_get-push, push_cases}
 use Rattle.smt_text.specs.declared.token.Place.{Place}
 use Rattle.formula_draft.specs.declared.draft_row.DraftRow.{DraftRow}
 use Rattle.formula_draft.specs.declared.draft_node.DraftNode.{DraftNode}
 use Rattle.formula_draft.specs.DraftRow.{same_row}
 use Rattle.formula_draft.specs.DraftNode.{same_node}
 use Rattle.formula_draft.specs.Items.{with_item}
-use Rattle.formula_draft.specs.ItemLaws.{put_cases}
-use Rattle.formula_draft.specs.SameLaws.{Tells, found_at, rows_told, nodes_told}
+use Rattle.formula_draft.proofs.ItemLaws.{put_cases}
+use Rattle.formula_draft.proofs.SameLaws.{Tells, found_at, rows_told, nodes_told}
 use Rattle.formula_draft.specs.Draft.{Draft, IsDraft, FitsRow, FitsNode}
-use Rattle.formula_draft.specs.KeptLaws.{IsDraft-row, IsDraft-node}
+use Rattle.formula_draft.proofs.KeptLaws.{IsDraft-row, IsDraft-node}
 use Rattle.smt_names.specs.declared.syntax_fault.SyntaxFault.{SyntaxFault}
 use Rattle.smt_names.specs.declared.refusal.Refusal.{Refusal}
 use Rattle.smt_names.specs.declared.refusal.Refusal.TheVariants.{TermsFull, NodesFull}

@@ -1,7 +1,7 @@
 -- What is reached from a formula.
 use Rattle.std.proofs.Common.{◌≡◌, ℕ, List, [], ◌∷◌, slice_get, Some, Contains, refl, sym, ap, subst, ◌∙◌, zero, suc, ◌+◌, Bool, true, false, true≢false}
 use Rattle.std.proofs.lemmas.Option.{none-some, same_Some}
-use Rattle.graph_terms.specs.ListLaws.{place_from_Contains}
+use Rattle.graph_terms.proofs.ListLaws.{place_from_Contains}
 use Rattle.formula_draft.specs.declared.draft_row.DraftRow.{DraftRow}
 use Rattle.formula_draft.specs.declared.draft_row.DraftRow.TheVariants.{Var, App}
 use Rattle.formula_draft.specs.declared.draft_node.DraftNode.{DraftNode}

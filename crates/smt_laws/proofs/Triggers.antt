@@ -1,7 +1,7 @@
 -- A trigger is made of the rows that its roots reach.
 use Rattle.std.proofs.Common.{◌≡◌, ℕ, ◌<◌, List, length, get_or, slice_get, Some, All, Contains, refl, arith, ◌∙◌, ap}
 use Rattle.std.proofs.lemmas.Option.{slice_get_within}
-use Rattle.graph_terms.specs.ListLaws.{All-slice_get, Contains-slice_get, place_from_Contains}
+use Rattle.graph_terms.proofs.ListLaws.{All-slice_get, Contains-slice_get, place_from_Contains}
 use Rattle.graph_trigger.specs.declared.pattern_row.PatternRow.{PatternRow}
 use Rattle.formula_draft.specs.declared.draft_row.DraftRow.{DraftRow}
 use Rattle.formula_draft.specs.declared.draft_row.DraftRow.TheVariants.{Var, App}

@@ -5,7 +5,7 @@ use Rattle.std.proofs.lemmas.List.{length-map}
 use Rattle.std.proofs.lemmas.List.Sums.{sum_by-cons}
 use Rattle.std.proofs.lemmas.List.Folds.{Any-from_list_any}
 use Rattle.std.proofs.lemmas.List.Elements.{All-nil, All-cons, All-head, All-tail, All-map}
-use Rattle.graph_terms.specs.ListLaws.{element_at, All-slice_get, place_from_Contains}
+use Rattle.graph_terms.proofs.ListLaws.{element_at, All-slice_get, place_from_Contains}
 use Rattle.graph_trigger.specs.declared.pattern_row.PatternRow.{PatternRow}
 use Rattle.graph_trigger.specs.declared.pattern_row.PatternRow.TheVariants as pattern
 use Rattle.graph_trigger.specs.declared.trigger.Trigger.{Trigger}

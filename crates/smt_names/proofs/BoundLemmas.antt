@@ -5,7 +5,7 @@ use Rattle.std.proofs.lemmas.List.{reverse-append, reverse-reverse, length-rever
 use Rattle.std.proofs.lemmas.Option.{none-some, same_Some}
 use Rattle.std.proofs.lemmas.Slice.Eq.{bytes_eq-Decides}
 use Rattle.std.proofs.lemmas.Bool.Decides.{same_from_decides, Decides-like, Decides-eqb}
-use Rattle.graph_terms.specs.ListLaws.{slice_get-push, slice_get-push_other}
+use Rattle.graph_terms.proofs.ListLaws.{slice_get-push, slice_get-push_other}
 use Rattle.smt_names.specs.declared.bound.Bound.{Bound}
 use Rattle.smt_names.specs.declared.linked.Linked.{Linked}
 use Rattle.smt_names.specs.Names.{keep_last, last_with, bound_as}

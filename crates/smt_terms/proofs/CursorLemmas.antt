@@ -4,7 +4,7 @@ use Rattle.std.proofs.Common.{IfSome, slice_get}
 use Rattle.std.proofs.lemmas.Option.{slice_get-get_or}
 use Rattle.smt_text.specs.declared.token.Token.{Token as TokenOf}
 use Rattle.smt_text.specs.Partners.{IsPartner, Closes, kinds}
-use Rattle.smt_text.specs.PartnersLaws.{Closes-ahead, length-kinds}
+use Rattle.smt_text.proofs.PartnersLaws.{Closes-ahead, length-kinds}
 use Rattle.std.proofs.lemmas.List.{drop_more, drop_all}
 use Rattle.smt_text.specs.Word.{Word}
 use Rattle.smt_text.specs.Trees.{Trees, End, Token, Group, ahead, before, outermost, outer}

@@ -10,7 +10,7 @@ use Rattle.smt_text.specs.Pairing.{token_kinds, bare, IsOpenAt, IsAmong, HasPart
 use Rattle.smt_text.specs.declared.token.Kind.{Kind}
 use Rattle.smt_text.specs.declared.token.Kind.TheVariants.{Left, Right}
 use Rattle.smt_text.specs.declared.token.Token.{Token}
-use Rattle.smt_text.specs.PartnersLaws.{opened_more, closed_more, begins}
+use Rattle.smt_text.proofs.PartnersLaws.{opened_more, closed_more, begins}
 use Rattle.smt_text.proofs.Words.{length-words_of}
 
 pub length-token_kinds : (ts : List Token) → length (token_kinds ts) ≡ length ts

@@ -1,5 +1,5 @@
 use Rattle.std.proofs.Common.{[], refl, inr}
-use Rattle.em_outside.specs.BytesLaws.{Appended-none}
+use Rattle.em_outside.proofs.BytesLaws.{Appended-none}
 use Rattle.ematch_cli.proofs.script.refuse_bytes.Goals as goal
 
 pub returns-in-Ok-clause-writes : goal.returns-in-Ok-clause-writes

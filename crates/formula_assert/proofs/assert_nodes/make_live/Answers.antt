@@ -1,5 +1,5 @@
 use Rattle.std.proofs.Common.{take, refl, sym, subst}
-use Rattle.graph_terms.specs.ListLaws.{All-slice_get}
+use Rattle.graph_terms.proofs.ListLaws.{All-slice_get}
 use Rattle.graph_trigger.specs.Trigger.{IsValid}
 use Rattle.formula_assert.specs.InLevel.{GrowsGraph}
 use Rattle.formula_assert.proofs.OperationLemmas.{live_grows, live_next}

@@ -1,7 +1,7 @@
 use Rattle.std.proofs.Common.{◌≡◌, ℕ, ◌+◌, ◌-◌, ◌<◌, ◌++◌, ◌∷◌, [], List, length, take, reverse, slice_get, get_or, Some, sym, ap, ◌∙◌, append_assoc, arith}
 use Rattle.std.proofs.lemmas.List.{length-reverse, get_or-reverse}
 use Rattle.std.proofs.lemmas.Option.{slice_get-get_or, get_or_from_slice_get}
-use Rattle.graph_terms.specs.ListLaws.{take-slice_get}
+use Rattle.graph_terms.proofs.ListLaws.{take-slice_get}
 use Rattle.formula_assert.proofs.assert_nodes.push_conjuncts.Goals as goal
 
 -- one more part from the back

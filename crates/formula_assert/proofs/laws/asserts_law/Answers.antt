@@ -1,4 +1,4 @@
-use Rattle.formula_assert.specs.AssertsLaws.{asserts_once}
+use Rattle.formula_assert.proofs.AssertsLaws.{asserts_once}
 use Rattle.formula_assert.proofs.laws.asserts_law.Goals as goal
 
 pub returns : goal.returns

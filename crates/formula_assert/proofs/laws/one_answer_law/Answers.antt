@@ -1,4 +1,4 @@
-use Rattle.formula_assert.specs.OutcomeLaws.{asserts_formula_once, asserted_not_stopped, stopped_once}
+use Rattle.formula_assert.proofs.OutcomeLaws.{asserts_formula_once, asserted_not_stopped, stopped_once}
 use Rattle.formula_assert.proofs.laws.one_answer_law.Goals as goal
 
 pub returns-clause-once : goal.returns-clause-once

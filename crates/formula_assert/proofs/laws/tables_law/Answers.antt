@@ -1,4 +1,4 @@
-use Rattle.formula_assert.specs.OutcomeLaws.{tables_at_start, tables_pushed, tables_popped, tables_asserted, tables_stand}
+use Rattle.formula_assert.proofs.OutcomeLaws.{tables_at_start, tables_pushed, tables_popped, tables_asserted, tables_stand}
 use Rattle.formula_assert.proofs.laws.tables_law.Goals as goal
 
 pub returns-clause-start : goal.returns-clause-start

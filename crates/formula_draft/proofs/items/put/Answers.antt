@@ -1,6 +1,6 @@
 use Rattle.std.proofs.Common.{◌≡◌, ◌<◌, ◌≤◌, ℕ, true, false, cond, nat_lt, ◌∷◌, [], ◌++◌, length, Some, None, refl, sym, ap, ◌∙◌, arith}
 use Rattle.formula_draft.specs.Items.{item_or_new}
-use Rattle.formula_draft.specs.ItemLaws.{place}
+use Rattle.formula_draft.proofs.ItemLaws.{place}
 use Rattle.formula_draft.proofs.items.put.Goals as goal
 
 lt_true : (m n : ℕ) → m < n → nat_lt m n ≡ true

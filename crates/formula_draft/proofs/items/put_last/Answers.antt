@@ -2,7 +2,7 @@ use Rattle.std.proofs.Common.{ℕ, Bool, Vec, nat_eq, ◌∙◌}
 use Rattle.std.specs.declared.alloc.Global.{Global}
 use Rattle.std.specs.Cmp.Lexicographic.{pointwise}
 use Rattle.indexmap.proofs.CallerLemmas.{insert_entry-new}
-use Rattle.formula_draft.specs.ItemLaws.{missed}
+use Rattle.formula_draft.proofs.ItemLaws.{missed}
 use Rattle.formula_draft.proofs.items.put_last.Goals as goal
 
 pub returns-clause-ok : goal.returns-clause-ok

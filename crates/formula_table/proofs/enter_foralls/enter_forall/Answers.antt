@@ -1,7 +1,7 @@
 use Rattle.std.proofs.Common.{ℕ, length, ap, sym, subst, ◌∙◌}
 use Rattle.formula_table.specs.Formulas.{IsForallOf}
 use Rattle.formula_table.specs.Entry.{table_forall}
-use Rattle.formula_table.specs.ForallLaws.{IsForallOf-table_forall}
+use Rattle.formula_table.proofs.ForallLaws.{IsForallOf-table_forall}
 use Rattle.formula_table.proofs.enter_foralls.enter_forall.Goals as goal
 
 pub push_forall-requires : goal.push_forall-requires

@@ -2,7 +2,7 @@ use Rattle.std.proofs.Common.{◌≡◌, ◌+◌, ◌++◌, [], ◌∷◌, ℕ, 
 use Rattle.std.proofs.lemmas.List.{length-take}
 use Rattle.std.proofs.lemmas.Option.{slice_get_within}
 use Rattle.graph_trigger.specs.declared.trigger.Trigger.{Trigger}
-use Rattle.graph_terms.specs.ListLaws.{take-slice_get}
+use Rattle.graph_terms.proofs.ListLaws.{take-slice_get}
 use Rattle.formula_table.specs.Entry.{numbered, placed}
 use Rattle.formula_table.proofs.ForallLemmas.{numbered-push}
 use Rattle.formula_table.proofs.enter_foralls.numbered_forall.Goals as goal

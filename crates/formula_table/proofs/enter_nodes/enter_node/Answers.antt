@@ -3,8 +3,8 @@ use Rattle.std.proofs.lemmas.List.Elements.{All-contains}
 use Rattle.formula_draft.specs.DraftNode.{parts_of}
 use Rattle.formula_draft.specs.Reach.ReachesNode.{part_of_it}
 use Rattle.formula_table.specs.declared.node.Node.{Node}
-use Rattle.formula_table.specs.BecomesLaws.{forall_stands}
-use Rattle.formula_table.specs.StandLaws.{fits_entered}
+use Rattle.formula_table.proofs.BecomesLaws.{forall_stands}
+use Rattle.formula_table.proofs.StandLaws.{fits_entered}
 use Rattle.formula_table.specs.Formulas.{FitsTable}
 use Rattle.formula_table.specs.InOrder.PutsNext.{nothing}
 use Rattle.formula_table.specs.Entry.{BecomesNode}

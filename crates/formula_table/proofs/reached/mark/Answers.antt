@@ -1,6 +1,6 @@
 use Rattle.std.proofs.Common.{◌<◌, List, ℕ, length, take, set, get_or, true, subst, sym, arith}
 use Rattle.std.proofs.lemmas.List.{take_all}
-use Rattle.graph_terms.specs.ListLaws.{take-slice_get}
+use Rattle.graph_terms.proofs.ListLaws.{take-slice_get}
 use Rattle.std.proofs.lemmas.Option.{slice_get-get_or}
 use Rattle.formula_table.specs.Marks.{Marks}
 use Rattle.formula_table.proofs.MarkLemmas.{Marks-none, Marks-more}

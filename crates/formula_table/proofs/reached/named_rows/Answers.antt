@@ -1,6 +1,6 @@
 use Rattle.std.proofs.Common.{◌<◌, ◌+◌, Bool, false, List, Some, length, subst, sym, ap, ◌∙◌, arith}
 use Rattle.std.proofs.lemmas.Option.{slice_get-get_or}
-use Rattle.graph_terms.specs.ListLaws.{refilled}
+use Rattle.graph_terms.proofs.ListLaws.{refilled}
 use Rattle.formula_draft.specs.DraftNode.{rows_of}
 use Rattle.formula_table.specs.Marks.{Marks, IsMarked}
 use Rattle.formula_table.proofs.MarkLemmas.{AreNamed, AreNamed-marked, AreNamed-unmarked, AreNamed-all, not_marked, unmarked}

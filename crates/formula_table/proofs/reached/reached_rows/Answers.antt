@@ -1,5 +1,5 @@
 use Rattle.std.proofs.Common.{◌≡◌, ◌<◌, ◌-◌, ℕ, Bool, List, Some, length, subst, sym, ap, ◌∙◌, arith}
-use Rattle.graph_terms.specs.ListLaws.{refilled}
+use Rattle.graph_terms.proofs.ListLaws.{refilled}
 use Rattle.formula_draft.specs.DraftRow.{args_of}
 use Rattle.formula_draft.specs.DraftNode.{rows_of}
 use Rattle.formula_draft.specs.Reach.{ReachesRow}

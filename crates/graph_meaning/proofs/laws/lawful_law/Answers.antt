@@ -1,4 +1,4 @@
-use Rattle.graph_meaning.specs.LawfulLaws.{IsLawful-take, IsLawful-after}
+use Rattle.graph_meaning.proofs.LawfulLaws.{IsLawful-take, IsLawful-after}
 use Rattle.graph_meaning.proofs.laws.lawful_law.Goals as goal
 
 pub returns-clause-front : goal.returns-clause-front

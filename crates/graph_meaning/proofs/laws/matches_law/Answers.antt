@@ -1,4 +1,4 @@
-use Rattle.graph_meaning.specs.OneListLaws.{one_matches, one_item_matches}
+use Rattle.graph_meaning.proofs.OneListLaws.{one_matches, one_item_matches}
 use Rattle.graph_meaning.proofs.laws.matches_law.Goals as goal
 
 pub returns-clause-trigger : goal.returns-clause-trigger

@@ -1,4 +1,4 @@
-use Rattle.graph_meaning.specs.ReplayLaws.{done-replay, replay-push}
+use Rattle.graph_meaning.proofs.ReplayLaws.{done-replay, replay-push}
 use Rattle.graph_meaning.proofs.laws.replay_law.Goals as goal
 
 pub returns-clause-count : goal.returns-clause-count

@@ -1,7 +1,7 @@
 use Rattle.std.proofs.Common.{true, false, sym, ap, ◌∙◌, arith}
 use Rattle.std.specs.List.{before_last}
 use Rattle.graph_meaning.specs.Standing.{is_push}
-use Rattle.graph_terms.specs.ListLaws.{before_last-miss}
+use Rattle.graph_terms.proofs.ListLaws.{before_last-miss}
 use Rattle.graph_plain.proofs.ApplyLemmas.{length-terms_of-push, levels_of-push, levels_opened-push}
 use Rattle.graph_plain.proofs.graph.pop_level.Goals as goal
 

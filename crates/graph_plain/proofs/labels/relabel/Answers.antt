@@ -1,5 +1,5 @@
 use Rattle.std.proofs.Common.{◌∙◌, ap, set, arith, get_or, length, ◌<◌}
-use Rattle.graph_terms.specs.ListLaws.{get_or-any}
+use Rattle.graph_terms.proofs.ListLaws.{get_or-any}
 use Rattle.std.proofs.lemmas.List.Edits.{map_over_more}
 use Rattle.graph_plain.specs.Labels.{renamed_label}
 use Rattle.graph_plain.proofs.labels.relabel.Goals as goal

@@ -1,6 +1,6 @@
 use Rattle.std.proofs.Common.{◌∷◌, ◌++◌, length, set, ◌∙◌, ap, arith, length-set}
 use Rattle.std.proofs.lemmas.Slice.{take-put_mid}
-use Rattle.graph_terms.specs.ListLaws.{take-one-set}
+use Rattle.graph_terms.proofs.ListLaws.{take-one-set}
 use Rattle.graph_terms.proofs.table.write_key.Goals as goal
 
 pub returns : goal.returns

@@ -1,4 +1,4 @@
-use Rattle.match_code.specs.ClassLaws.{yields_same}
+use Rattle.match_code.proofs.ClassLaws.{yields_same}
 use Rattle.match_code.proofs.laws.classes_law.Goals as goal
 
 pub returns : goal.returns

@@ -7,8 +7,8 @@ use Rattle.formula_draft.specs.Items.{with_item, same_key, Puts}
 use Rattle.formula_draft.specs.DraftRow.{same_row, row_key}
 use Rattle.formula_draft.specs.Draft.{with_row}
 use Rattle.formula_draft.specs.DraftInside.{draft_of}
-use Rattle.formula_draft.specs.ItemLaws.{item_put, item_full, AreKeyed-put, within-put}
-use Rattle.formula_draft.specs.SameLaws.{row_by_keys}
+use Rattle.formula_draft.proofs.ItemLaws.{item_put, item_full, AreKeyed-put, within-put}
+use Rattle.formula_draft.proofs.SameLaws.{row_by_keys}
 use Rattle.formula_draft.proofs.formula_draft.FormulaDraft.row.Goals as goal
 
 pub put-requires : goal.put-requires

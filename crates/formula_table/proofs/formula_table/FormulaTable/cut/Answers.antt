@@ -7,7 +7,7 @@ use Rattle.formula_draft.specs.Items.{AreKeyed}
 use Rattle.formula_table.specs.Node.{entered_key}
 use Rattle.formula_table.specs.Formulas.{Formulas, IsFormulaTable, NamesFirst, first_formulas}
 use Rattle.formula_table.specs.TableInside.{table_of}
-use Rattle.formula_draft.specs.ItemLaws.{values_of-take, AreKeyed-take}
+use Rattle.formula_draft.proofs.ItemLaws.{values_of-take, AreKeyed-take}
 use Rattle.formula_table.proofs.TableLemmas.{IsFormulaTable-first}
 use Rattle.formula_table.proofs.formula_table.FormulaTable.cut.Goals as goal
 

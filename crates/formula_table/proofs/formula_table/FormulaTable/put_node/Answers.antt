@@ -8,8 +8,8 @@ use Rattle.formula_table.specs.Node.{same_entered, entered_key}
 use Rattle.formula_table.specs.Formulas.{Formulas, FitsTable, RefusesEntered, with_entered}
 use Rattle.formula_table.specs.TableInside.{table_of}
 use Rattle.formula_table.specs.declared.enter_fault.EnterFault.TheVariants.{NodesFull}
-use Rattle.formula_draft.specs.SameLaws.{absent}
-use Rattle.formula_draft.specs.ItemLaws.{item_put, item_full, full_cases, AreKeyed-put}
+use Rattle.formula_draft.proofs.SameLaws.{absent}
+use Rattle.formula_draft.proofs.ItemLaws.{item_put, item_full, full_cases, AreKeyed-put}
 use Rattle.formula_table.proofs.Same.{entered_by_keys, entered_told}
 use Rattle.formula_table.proofs.TableLemmas.{IsFormulaTable-node}
 use Rattle.formula_table.proofs.formula_table.FormulaTable.put_node.Goals as goal

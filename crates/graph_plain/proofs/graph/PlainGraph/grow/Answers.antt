@@ -1,5 +1,5 @@
 use Rattle.std.proofs.Common.{◌∷◌, [], ◌++◌, ◌<◌, ◌^◌, length, sym, ap, subst, ◌∙◌, arith}
-use Rattle.graph_terms.specs.ListLaws.{refilled}
+use Rattle.graph_terms.proofs.ListLaws.{refilled}
 use Rattle.graph_terms.specs.Terms.{Table}
 use Rattle.graph_meaning.specs.State.{GraphState}
 use Rattle.graph_meaning.specs.Lawful.{Allows}

@@ -3,7 +3,7 @@ use Rattle.std.proofs.lemmas.Grind.{common_steps}
 use Rattle.graph_plain.specs.Labels.{AreSound}
 use Rattle.graph_meaning.specs.Standing.{levels_of}
 use Rattle.graph_plain.specs.PlainInside.{AreKept}
-use Rattle.graph_terms.specs.ListLaws.{refilled}
+use Rattle.graph_terms.proofs.ListLaws.{refilled}
 use Rattle.graph_plain.proofs.ApplyLemmas.{AreKept-first}
 use Rattle.graph_plain.proofs.GraphLemmas.{AreSound-first}
 use Rattle.graph_plain.proofs.graph.PlainGraph.new.Goals as goal

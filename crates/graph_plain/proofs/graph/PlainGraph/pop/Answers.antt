@@ -6,7 +6,7 @@ use Rattle.graph_meaning.specs.Standing.{is_push, merges_of}
 use Rattle.graph_plain.specs.Labels.{AreMerged, AreSound}
 use Rattle.graph_meaning.specs.Lawful.{EndsBelow}
 use Rattle.graph_plain.specs.PlainInside.{AreKept}
-use Rattle.graph_terms.specs.ListLaws.{refilled}
+use Rattle.graph_terms.proofs.ListLaws.{refilled}
 use Rattle.graph_plain.proofs.ApplyLemmas.{fewer_terms, terms_left, lawful_left, AreKept-left, AreSound-own}
 use Rattle.graph_plain.proofs.graph.PlainGraph.pop.Goals as goal
 

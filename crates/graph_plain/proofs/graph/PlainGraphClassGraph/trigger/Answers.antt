@@ -2,7 +2,7 @@ use Rattle.std.proofs.Common.{◌≡◌, ◌∙◌, All, ℕ, Some, slice_get, l
 use Rattle.std.specs.Option.{option_map}
 use Rattle.graph_meaning.specs.Standing.{live_trigger, triggers_of}
 use Rattle.graph_trigger.specs.Trigger.{IsValid}
-use Rattle.graph_terms.specs.ListLaws.{All-slice_get}
+use Rattle.graph_terms.proofs.ListLaws.{All-slice_get}
 use Rattle.graph_meaning.specs.State.{GraphState}
 use Rattle.graph_plain.proofs.StandingLemmas.{length-take_more, slice_get-filter_map}
 use Rattle.graph_plain.proofs.graph.PlainGraphClassGraph.trigger.Goals as goal

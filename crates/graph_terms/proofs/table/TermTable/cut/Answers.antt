@@ -4,7 +4,7 @@ use Rattle.std.specs.Map.{values_of}
 use Rattle.graph_terms.specs.Terms.{IsTable}
 use Rattle.graph_terms.specs.Entries.{IsKeyed}
 use Rattle.graph_terms.proofs.TableLemmas.{IsKeyed-take, values_of-take}
-use Rattle.graph_terms.specs.TableLaws.{IsTable-take}
+use Rattle.graph_terms.proofs.TableLaws.{IsTable-take}
 use Rattle.graph_terms.proofs.table.TermTable.cut.Goals as goal
 
 pub invariant_of-self : goal.invariant_of-self

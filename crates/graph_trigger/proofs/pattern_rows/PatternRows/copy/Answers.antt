@@ -1,5 +1,5 @@
 use Rattle.std.proofs.Common.{◌++◌, ◌∷◌, [], ap₂, sym, ◌∙◌}
-use Rattle.graph_terms.specs.ListLaws.{take-slice_get}
+use Rattle.graph_terms.proofs.ListLaws.{take-slice_get}
 use Rattle.graph_trigger.proofs.pattern_rows.PatternRows.copy.Goals as goal
 
 pub loop-i-preserved : goal.loop-i-preserved

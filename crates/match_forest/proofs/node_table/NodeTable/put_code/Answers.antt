@@ -1,6 +1,6 @@
 use Rattle.std.proofs.Common.{◌≡◌, ◌∷◌, ◌++◌, [], take, List, ◌∙◌, Option, ap, sym, subst, arith}
 use Rattle.match_code.specs.declared.instr.Instr.{Instr}
-use Rattle.graph_terms.specs.ListLaws.{take-slice_get}
+use Rattle.graph_terms.proofs.ListLaws.{take-slice_get}
 use Rattle.match_forest.specs.NodesInside.{Leads}
 use Rattle.match_forest.proofs.WayLemmas.{path_end}
 use Rattle.match_forest.proofs.NodeLemmas.{leads_first, leads_more}

@@ -1,6 +1,6 @@
 use Rattle.std.proofs.Common.{◌≡◌, ◌++◌, [], ◌∷◌, ap, sym, subst, ◌∙◌}
 use Rattle.graph_meaning.specs.declared.op.Op.TheVariants.{Live}
-use Rattle.graph_meaning.specs.LawfulLaws.{triggers_of-push}
+use Rattle.graph_meaning.proofs.LawfulLaws.{triggers_of-push}
 use Rattle.graph_meaning.specs.Standing.{triggers_of}
 use Rattle.graph_meaning.specs.State.{GraphState}
 use Rattle.match_forest.specs.Forest.{Serves}

@@ -5,7 +5,7 @@ use Rattle.std.proofs.lemmas.Option.{none-some, same_Some}
 use Rattle.std.proofs.lemmas.List.Elements.{All-nil}
 use Rattle.graph_terms.specs.declared.term_row.TermRow.{TermRow}
 use Rattle.graph_terms.specs.Terms.{most_args, term_row, first_rows, HasRow, IsAbsent, IsTable}
-use Rattle.graph_terms.specs.ListLaws.{slice_get-append_left, push_cases, slice_get-take, slice_get-take_below}
+use Rattle.graph_terms.proofs.ListLaws.{slice_get-append_left, push_cases, slice_get-take, slice_get-take_below}
 
 -- the rows of true and false are a table
 pub IsTable-first : IsTable first_rows

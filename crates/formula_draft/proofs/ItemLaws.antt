@@ -10,7 +10,7 @@ use Rattle.std.proofs.lemmas.Iterator.Adapters.{position_from-zero}
 use Rattle.std.proofs.lemmas.List.{length-append}
 use Rattle.std.proofs.lemmas.Map.Entries.{length-values_of}
 use Rattle.std.proofs.lemmas.Option.{none-some, same_Some}
-use Rattle.graph_terms.specs.ListLaws.{push_cases, slice_get-take}
+use Rattle.graph_terms.proofs.ListLaws.{push_cases, slice_get-take}
 use Rattle.formula_draft.specs.Items.{with_item, item_or_new, same_key, AreKeyed}
 
 cond_none : {X : Type 0} (b : Bool) (x : X) (o : Option X) → cond b (Some x) o ≡ None → (b ≡ false) × (o ≡ None)

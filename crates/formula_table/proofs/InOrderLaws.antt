@@ -5,8 +5,8 @@ use Rattle.std.specs.Prelude.{slice_index}
 use Rattle.std.proofs.lemmas.Bool.{cases_lt}
 use Rattle.std.proofs.lemmas.List.{length-append, get_or_append_left}
 use Rattle.std.proofs.lemmas.Option.{none-some, same_Some, slice_get_within, get_or_from_slice_get}
-use Rattle.graph_terms.specs.ListLaws.{slice_get-append_left, slice_get-push, push_cases, element_at}
-use Rattle.formula_draft.specs.ReachLaws.{back}
+use Rattle.graph_terms.proofs.ListLaws.{slice_get-append_left, slice_get-push, push_cases, element_at}
+use Rattle.formula_draft.proofs.ReachLaws.{back}
 use Rattle.formula_table.specs.InOrder.{AreInOrder, StandsNowhere, IsFullFor}
 
 -- a list is empty or has a last element

@@ -2,12 +2,12 @@
 use Rattle.std.proofs.Common.{◌≡◌, ℕ, ◌<◌, List, [], ◌∷◌, length, slice_get, Some, refl, arith}
 use Rattle.std.proofs.lemmas.List.Elements.{All-contains}
 use Rattle.graph_terms.specs.declared.term_row.TermRow.{TermRow}
-use Rattle.graph_terms.specs.ListLaws.{element_at}
+use Rattle.graph_terms.proofs.ListLaws.{element_at}
 use Rattle.formula_draft.specs.declared.draft_row.DraftRow.{DraftRow}
 use Rattle.formula_draft.specs.declared.draft_row.DraftRow.TheVariants.{Var, App}
 use Rattle.formula_draft.specs.declared.draft_node.DraftNode.TheVariants.{Forall}
 use Rattle.formula_draft.specs.Reach.{ReachesNode, ReachesRow}
-use Rattle.formula_draft.specs.ReachLaws.{row_stands, node_stands}
+use Rattle.formula_draft.proofs.ReachLaws.{row_stands, node_stands}
 use Rattle.formula_draft.specs.Draft.{Formula, IsFormula}
 use Rattle.formula_table.specs.declared.node.Node.{Node}
 use Rattle.formula_table.specs.Entry.{BecomesRow, BecomesNode, ReachesForall, entered_row, entered_node}

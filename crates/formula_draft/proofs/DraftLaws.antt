@@ -3,14 +3,14 @@ use Rattle.std.proofs.Common.{◌≡◌, ℕ, Bool, List, [], ◌∷◌, ◌++�
     append-nil}
 use Rattle.std.specs.Option.{option_map}
 use Rattle.std.proofs.lemmas.Option.{none-some, same_Some}
-use Rattle.graph_terms.specs.ListLaws.{slice_get-push}
+use Rattle.graph_terms.proofs.ListLaws.{slice_get-push}
 use Rattle.formula_draft.specs.declared.draft_row.DraftRow.{DraftRow}
 use Rattle.formula_draft.specs.declared.draft_node.DraftNode.{DraftNode}
 use Rattle.formula_draft.specs.DraftRow.{same_row}
 use Rattle.formula_draft.specs.DraftNode.{same_node}
 use Rattle.formula_draft.specs.Items.{with_item}
-use Rattle.formula_draft.specs.ItemLaws.{put_cases}
-use Rattle.formula_draft.specs.SameLaws.{Tells, found_at, rows_told, nodes_told}
+use Rattle.formula_draft.proofs.ItemLaws.{put_cases}
+use Rattle.formula_draft.proofs.SameLaws.{Tells, found_at, rows_told, nodes_told}
 use Rattle.formula_draft.specs.Draft.{Draft, with_row, with_node}
 
 -- an item that was put stands under its number, and the others are as they were

@@ -9,8 +9,8 @@ use Rattle.std.proofs.lemmas.Option.{slice_get_within, get_or_from_slice_get}
 use Rattle.graph_terms.specs.declared.term_row.TermRow.{TermRow}
 use Rattle.graph_meaning.specs.Questions.{AreAll}
 use Rattle.graph_terms.specs.Terms.{term_row, IsTable}
-use Rattle.graph_terms.specs.ListLaws.{element_at, place_from_Contains, Contains-slice_get}
-use Rattle.graph_meaning.specs.OneListLaws.{one_list}
+use Rattle.graph_terms.proofs.ListLaws.{element_at, place_from_Contains, Contains-slice_get}
+use Rattle.graph_meaning.proofs.OneListLaws.{one_list}
 use Rattle.formula_draft.specs.declared.draft_row.DraftRow.TheVariants.{App}
 use Rattle.formula_draft.specs.declared.draft_node.DraftNode.{DraftNode}
 use Rattle.formula_draft.specs.declared.draft_node.DraftNode.TheVariants.{Equal, Atom, And, Or, Forall}
@@ -18,7 +18,7 @@ use Rattle.formula_draft.specs.DraftNode.{parts_of}
 use Rattle.formula_draft.specs.Reach.{ReachesNode, ReachesRow}
 use Rattle.formula_draft.specs.Reach.ReachesNode.{itself, part_of_it}
 use Rattle.formula_draft.specs.Reach.ReachesRow.{named, argument}
-use Rattle.formula_draft.specs.ReachLaws.{row_stands}
+use Rattle.formula_draft.proofs.ReachLaws.{row_stands}
 use Rattle.formula_draft.specs.Draft.{Formula, IsFormula}
 use Rattle.formula_table.specs.declared.node.Node.{Node}
 use Rattle.formula_table.specs.declared.node.Node.TheVariants as entered
@@ -27,8 +27,8 @@ use Rattle.formula_table.specs.declared.enter_fault.EnterFault.{EnterFault}
 use Rattle.formula_table.specs.declared.enter_fault.EnterFault.TheVariants.{TermsFull, NodesFull, Memory}
 use Rattle.formula_table.specs.Formulas.{Formulas, IsFormulaTable}
 use Rattle.formula_table.specs.InOrder.{AreInOrder}
-use Rattle.formula_table.specs.BecomesLaws.{row_becomes, node_becomes, forall_stands}
-use Rattle.formula_table.specs.InOrderLaws.{one_in_order, full_stops}
+use Rattle.formula_table.proofs.BecomesLaws.{row_becomes, node_becomes, forall_stands}
+use Rattle.formula_table.proofs.InOrderLaws.{one_in_order, full_stops}
 use Rattle.formula_table.specs.Entry.{BecomesRow, BecomesNode, ReachesForall, RowsGrow, ForallsGrow, NodesGrow,
     FillsTerms, FillsNodes, Enters, LacksNodes, StopsEntry, entered_row, entered_node}
 

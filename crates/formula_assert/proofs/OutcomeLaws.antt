@@ -7,39 +7,28 @@ use Rattle.graph_meaning.specs.declared.done.Done.{Done}
 use Rattle.graph_terms.specs.declared.term_row.TermRow.{TermRow}
 use Rattle.graph_meaning.specs.declared.op.Op.TheVariants.{Push}
 use Rattle.graph_meaning.specs.Lawful.{IsLawful}
-use Rattle.graph_meaning.specs.LawfulLaws.{then_op, terms_of-push, IsLawful-take}
-use Rattle.graph_terms.specs.ListLaws.{before_last-hit, before_last-miss}
+use Rattle.graph_meaning.proofs.LawfulLaws.{then_op, terms_of-push, IsLawful-take}
+use Rattle.graph_terms.proofs.ListLaws.{before_last-hit, before_last-miss}
 use Rattle.graph_meaning.specs.Standing.{is_push, terms_of}
 use Rattle.graph_meaning.specs.State.{GraphState, state_after}
-use Rattle.graph_terms.specs.TableLaws.{IsTable-first}
+use Rattle.graph_terms.proofs.TableLaws.{IsTable-first}
 use Rattle.graph_terms.specs.Terms.{IsTable}
 use Rattle.formula_draft.specs.Draft.{Formula, IsFormula}
 use Rattle.formula_table.specs.declared.enter_fault.EnterFault.{EnterFault}
 use Rattle.formula_table.specs.declared.enter_fault.EnterFault.TheVariants.{TermsFull, NodesFull, Memory}
-use Rattle.formula_table.specs.EntryLaws.{enters_once-into, full_terms_once, full_terms_not_entered,
+use Rattle.formula_table.proofs.EntryLaws.{enters_once-into, full_terms_once, full_terms_not_entered,
     full_terms_not_lacking, lacking_nodes_once, lacking_nodes_not_entered}
 use Rattle.formula_table.specs.Formulas.{Formulas, IsFormulaTable, no_formulas}
-use Rattle.formula_table.specs.StandLaws.{stands_after}
+use Rattle.formula_table.proofs.StandLaws.{stands_after}
 use Rattle.match_graph.specs.GraphTerms.{adding, with_terms}
 use Rattle.match_graph.specs.GraphTermsLaws.{terms-with_terms}
+use Rattle.formula_assert.specs.Tables.{WereTables, AreTables}
 use Rattle.formula_assert.specs.Held.{Held, held}
 use Rattle.formula_assert.specs.Asserts.{Asserts}
 use Rattle.formula_assert.specs.Assertions.{Saved, Assertions, held_of, no_assertions, pushed, popped, restored}
 use Rattle.formula_assert.specs.AssertFormula.{AssertsFormula, StopsAssert, KeepsFormulas}
-use Rattle.formula_assert.specs.AssertsLaws.{asserts_once, asserts_terms}
+use Rattle.formula_assert.proofs.AssertsLaws.{asserts_once, asserts_terms}
 use Rattle.formula_assert.specs.Stands.{AreAssertions, AreSaved}
-
--- the terms and the formulas were tables when each level was opened
-abbrev pub WereTables : List Done → List Saved → Type 0
-WereTables standing [] = Unit {0}
-WereTables standing (level ∷ saved) = IsTable (terms_of (before_last is_push standing)) ×
-    IsFormulaTable level.formulas × WereTables (before_last is_push standing) saved
-
--- the terms and the formulas are tables, now and as they stood when each level was opened
-pub record AreTables (now : Assertions) : Type 0 where
-  pub terms : IsTable (terms_of now.graph.standing)
-  pub formulas : IsFormulaTable now.formulas
-  pub saved : WereTables now.graph.standing now.saved
 
 -- no formulas are a table
 no_formulas_table : (limit : ℕ) → IsFormulaTable (no_formulas limit)

@@ -15,7 +15,7 @@ use Rattle.graph_meaning.specs.Standing.{added_row, merged_ends, different_ends,
     differs_of, triggers_of, rows_added, merges_added, differs_added, triggers_added, standing_after}
 pub use Rattle.graph_meaning.specs.Standing.{then_op}
 use Rattle.graph_meaning.specs.Lawful.{Allows, EndsBelow, KeepsRules, IsLawful}
-use Rattle.graph_terms.specs.TableLaws.{IsTable-first, IsTable-push}
+use Rattle.graph_terms.proofs.TableLaws.{IsTable-first, IsTable-push}
 
 module _ (standing : List Done) (serial : ℕ) where
   -- the terms after one operation more

@@ -6,7 +6,7 @@ use Rattle.std.proofs.lemmas.List.Elements.{All-weaker}
 use Rattle.std.specs.List.{position_from}
 use Rattle.std.specs.Option.{option_map}
 use Rattle.std.proofs.lemmas.Option.{none-some, same_Some}
-use Rattle.graph_terms.specs.ListLaws.{push_cases}
+use Rattle.graph_terms.proofs.ListLaws.{push_cases}
 use Rattle.formula_draft.specs.declared.draft_row.DraftRow.{DraftRow}
 use Rattle.formula_draft.specs.declared.draft_row.DraftRow.TheVariants.{Var}
 use Rattle.formula_draft.specs.declared.draft_node.DraftNode.{DraftNode}
@@ -17,9 +17,9 @@ use Rattle.formula_draft.specs.DraftNode.{rows_of, foralls_of, same_node}
 use Rattle.formula_draft.specs.Items.{with_item}
 use Rattle.formula_draft.specs.Draft.{Draft, AreLawful, IsDraft, FitsRow, FitsNode, FitsForall, with_row, with_node,
     with_forall}
-use Rattle.formula_draft.specs.ItemLaws.{put_cases}
-use Rattle.formula_draft.specs.SameLaws.{once-push, rows_told, nodes_told}
-use Rattle.formula_draft.specs.ReachLaws.{back, node_back, row_back, node_stands, row_stands}
+use Rattle.formula_draft.proofs.ItemLaws.{put_cases}
+use Rattle.formula_draft.proofs.SameLaws.{once-push, rows_told, nodes_told}
+use Rattle.formula_draft.proofs.ReachLaws.{back, node_back, row_back, node_stands, row_stands}
 
 -- a bound that holds of all grows
 pub All_up : (xs : List ℕ) (m n : ℕ) → m ≤ n → All (λ x. x < m) xs → All (λ x. x < n) xs

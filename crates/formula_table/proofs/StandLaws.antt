@@ -7,8 +7,8 @@ use Rattle.std.proofs.lemmas.List.Elements.{All-nil, All-cons, All-map, All-weak
 use Rattle.std.proofs.lemmas.Option.{same_Some, slice_get_within, get_or_from_slice_get}
 use Rattle.graph_terms.specs.declared.term_row.TermRow.{TermRow}
 use Rattle.graph_terms.specs.Terms.{IsTable}
-use Rattle.graph_terms.specs.TableLaws.{IsTable-push}
-use Rattle.graph_terms.specs.ListLaws.{element_at, place_from_Contains, Contains-slice_get}
+use Rattle.graph_terms.proofs.TableLaws.{IsTable-push}
+use Rattle.graph_terms.proofs.ListLaws.{element_at, place_from_Contains, Contains-slice_get}
 use Rattle.formula_draft.specs.declared.draft_row.DraftRow.TheVariants.{App}
 use Rattle.formula_draft.specs.declared.draft_node.DraftNode.{DraftNode}
 use Rattle.formula_draft.specs.declared.draft_forall.DraftForall.{DraftForall}
@@ -17,17 +17,17 @@ use Rattle.formula_draft.specs.DraftNode.{parts_of}
 use Rattle.formula_draft.specs.Reach.{ReachesNode, ReachesRow}
 use Rattle.formula_draft.specs.Reach.ReachesNode.{itself, part_of_it}
 use Rattle.formula_draft.specs.Reach.ReachesRow.{named, argument}
-use Rattle.formula_draft.specs.ReachLaws.{row_stands}
+use Rattle.formula_draft.proofs.ReachLaws.{row_stands}
 use Rattle.formula_draft.specs.Draft.{Formula, IsFormula}
 use Rattle.formula_table.specs.declared.node.Node.{Node}
 use Rattle.formula_table.specs.declared.table_forall.TableForall.{TableForall}
 use Rattle.formula_table.specs.Node.{terms_in}
 use Rattle.formula_table.specs.Formulas.{Formulas, IsFormulaTable, IsForallOf, FitsTable, NodesStand, with_foralls}
-use Rattle.formula_table.specs.FormulaLaws.{append_cases, IsFormulaTable-push, IsFormulaTable-foralls}
-use Rattle.formula_table.specs.ForallLaws.{IsForallOf-table_forall}
-use Rattle.formula_table.specs.BecomesLaws.{row_becomes, node_becomes, forall_stands}
+use Rattle.formula_table.proofs.FormulaLaws.{append_cases, IsFormulaTable-push, IsFormulaTable-foralls}
+use Rattle.formula_table.proofs.ForallLaws.{IsForallOf-table_forall}
+use Rattle.formula_table.proofs.BecomesLaws.{row_becomes, node_becomes, forall_stands}
 use Rattle.formula_table.specs.InOrder.{AreInOrder}
-use Rattle.formula_table.specs.InOrderLaws.{PutLast, none_added, last_step}
+use Rattle.formula_table.proofs.InOrderLaws.{PutLast, none_added, last_step}
 use Rattle.formula_table.specs.Entry.{BecomesRow, BecomesNode, ReachesForall, RowsGrow, ForallsGrow, TableGrows,
     FillsTerms, LacksMemory, LacksNodes, Enters, table_forall, entered_node}
 

@@ -17,7 +17,7 @@ use Rattle.smt_text.specs.declared.token.Kind.TheVariants.{Left, Right}
 use Rattle.smt_text.specs.declared.token.Place.{Place}
 use Rattle.smt_text.specs.declared.lexeme.Lexeme.{Lexeme}
 use Rattle.smt_text.specs.declared.lexeme.Lexeme.TheVariants.{Blank, Token, Ill, Cut}
-use Rattle.smt_text.specs.PartnersLaws.{length-kinds, opened-append, closed-append}
+use Rattle.smt_text.proofs.PartnersLaws.{length-kinds, opened-append, closed-append}
 
 -- so many parentheses are open behind these tokens, and one or more behind each front of them
 record Nests (depth : ℕ) (ks : List Kind) : Type 0 where

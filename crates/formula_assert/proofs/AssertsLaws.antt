@@ -4,8 +4,8 @@ use Rattle.std.specs.List.{before_last}
 use Rattle.std.proofs.lemmas.Option.{same_Some}
 use Rattle.graph_trigger.specs.declared.trigger.Trigger.{Trigger}
 use Rattle.graph_meaning.specs.declared.op.Op.TheVariants.{Merge, Differ, Live}
-use Rattle.graph_meaning.specs.LawfulLaws.{terms_of-push}
-use Rattle.graph_terms.specs.ListLaws.{before_last-miss}
+use Rattle.graph_meaning.proofs.LawfulLaws.{terms_of-push}
+use Rattle.graph_terms.proofs.ListLaws.{before_last-miss}
 use Rattle.graph_meaning.specs.Standing.{is_push, terms_of}
 use Rattle.graph_meaning.specs.State.{GraphState, replay, state_after}
 use Rattle.formula_table.specs.declared.node.Node.{Node}

@@ -5,7 +5,7 @@ use Rattle.std.proofs.lemmas.Option.{none-some, same_Some}
 use Rattle.graph_trigger.specs.declared.trigger.Trigger.{Trigger}
 use Rattle.graph_trigger.specs.Trigger.{IsValid, Occurs}
 use Rattle.graph_trigger.specs.Trigger.Occurs.{at_root, below}
-use Rattle.graph_terms.specs.ListLaws.{All-slice_get}
+use Rattle.graph_terms.proofs.ListLaws.{All-slice_get}
 use Rattle.formula_draft.specs.declared.draft_forall.DraftForall.{DraftForall}
 use Rattle.formula_draft.specs.Draft.{FitsTrigger}
 use Rattle.formula_table.specs.Formulas.{IsForallOf, IsTriggerOf}
