@@ -19,7 +19,7 @@ mutual
   size_once {rows} {term} (tree {symbol = f} {args = xs} has sizes)
       (tree {symbol = g} {size = m} {args = ys} has' sizes') =
       ap (λ (k : ℕ). k + 1) (sizes_once sizes (subst (λ (zs : List ℕ). HaveTreeSize rows zs m)
-          (args_once rows term g f ys xs has' has) sizes'))
+      (args_once rows term g f ys xs has' has) sizes'))
 
   pub sizes_once : {rows : List TermRow} {terms : List ℕ} {a b : ℕ} → HaveTreeSize rows terms a →
       HaveTreeSize rows terms b → a ≡ b
@@ -50,9 +50,9 @@ mutual
   term_text_once {names} {rows} {term} (application {symbol = f} {arg = x} {args = xs} {text = t} has texts)
       (application {symbol = g} {arg = y} {args = ys} {text = u} has' texts') =
       ap₂ (λ (s : ℕ) (z : List ℕ). 40 ∷ symbol_text (names s) ++ z ++ 41 ∷ [])
-          (symbol_once rows term f g (x ∷ xs) (y ∷ ys) has has')
+      (symbol_once rows term f g (x ∷ xs) (y ∷ ys) has has')
       (term_texts_once texts (subst (λ (zs : List ℕ). AreTermTexts names rows zs u)
-          (args_once rows term g f (y ∷ ys) (x ∷ xs) has' has) texts'))
+      (args_once rows term g f (y ∷ ys) (x ∷ xs) has' has) texts'))
 
   pub term_texts_once : {names : ℕ → List ℕ} {rows : List TermRow} {terms : List ℕ} {a b : List ℕ} →
       AreTermTexts names rows terms a → AreTermTexts names rows terms b → a ≡ b

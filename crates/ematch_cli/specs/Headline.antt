@@ -8,8 +8,8 @@ use Rattle.ematch_cli.specs.Status.{text_of}
 use Rattle.ematch_cli.specs.Output.{Answer, Ending, Open, Finished, Failed, BeginsWith}
 use Rattle.ematch_cli.specs.Output.{IsOutput, IsOutputSoFar, IsFrontOf}
 use Rattle.ematch_cli.specs.declared.status.Status.{Status}
-use Rattle.ematch_cli.specs.declared.status.Status.TheVariants.{Done, ScriptError, WordsRefused, ReadFault,
-    WriteFault, NoMemory}
+use Rattle.ematch_cli.specs.declared.status.Status.TheVariants.{Done, ScriptError, WordsRefused}
+use Rattle.ematch_cli.specs.declared.status.Status.TheVariants.{ReadFault, WriteFault, NoMemory}
 use Rattle.ematch_cli.specs.declared.task.Task.{Task}
 
 -- a sink gained the whole of such an answer, which ends so
@@ -30,7 +30,7 @@ WroteFrontOf task limits known taken old new =
 abbrev pub Breaks : Task → Limits → Option (List ℕ) → List ℕ → Option (List ℕ) → Option (List ℕ) → Type 0
 Breaks task limits input taken old new =
     WroteFrontOf task limits false taken old new ⊎ (Exhausts input taken ×
-        WroteFrontOf task limits true taken old new)
+    WroteFrontOf task limits true taken old new)
 
 -- The bytes taken end the answer so, whatever comes, or all bytes do, whose end was read; so the output of the whole
 -- input was written.

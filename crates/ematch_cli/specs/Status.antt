@@ -4,8 +4,8 @@ use Rattle.ematch_cli.specs.Listing.{line}
 use Rattle.smt_text.specs.declared.fault.TextFault.{TextFault}
 use Rattle.smt_text.specs.declared.fault.TextFault.TheVariants as fault
 use Rattle.ematch_cli.specs.declared.status.Status.{Status}
-use Rattle.ematch_cli.specs.declared.status.Status.TheVariants.{Done, ScriptError, WordsRefused, ReadFault,
-    WriteFault, NoMemory}
+use Rattle.ematch_cli.specs.declared.status.Status.TheVariants.{Done, ScriptError, WordsRefused}
+use Rattle.ematch_cli.specs.declared.status.Status.TheVariants.{ReadFault, WriteFault, NoMemory}
 
 -- the exit status of the program
 abbrev pub code_of : Status → ℕ

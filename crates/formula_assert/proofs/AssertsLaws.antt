@@ -24,7 +24,7 @@ module _ (formulas : Formulas) where
     asserts_once {n = n} {before = before} {other = other} (holds {node = node} not at all)
         (holds {node = node'} not' at' all') =
         all_once all (subst (λ (x : Node). AssertsAll formulas (conjuncts_of x) (holding formulas n x before) other)
-            (same_Some node' node (sym at' ∙ at)) all')
+        (same_Some node' node (sym at' ∙ at)) all')
 
     all_once : {ns : List ℕ} {before one other : Held} → AssertsAll formulas ns before one →
         AssertsAll formulas ns before other → one ≡ other
@@ -72,7 +72,7 @@ keeps_all_live : (graph : GraphState) (triggers : List Trigger) → KeepsTerms g
 keeps_all_live graph [] = keeps_none graph
 keeps_all_live graph (trigger ∷ triggers) =
     keeps_both graph (state_after graph (Live trigger)) (replay (state_after graph (Live trigger))
-        (map Live triggers)) (keeps_live graph trigger) (keeps_all_live (state_after graph (Live trigger)) triggers)
+    (map Live triggers)) (keeps_live graph trigger) (keeps_all_live (state_after graph (Live trigger)) triggers)
 
 module _ (formulas : Formulas) where
   -- what a node stands for by itself adds no terms
@@ -93,7 +93,7 @@ module _ (formulas : Formulas) where
     asserts_terms {before = before} (stands is) = keeps_none before.graph
     asserts_terms {before = before} {after = after} (holds {node = node} not at all) =
         keeps_both before.graph (replay before.graph (operations_of formulas node)) after.graph
-            (keeps_operations before.graph node) (all_terms all)
+        (keeps_operations before.graph node) (all_terms all)
 
     all_terms : {ns : List ℕ} {before after : Held} → AssertsAll formulas ns before after →
         KeepsTerms before.graph after.graph

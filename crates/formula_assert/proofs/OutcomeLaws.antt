@@ -16,8 +16,8 @@ use Rattle.graph_terms.specs.Terms.{IsTable}
 use Rattle.formula_draft.specs.Draft.{Formula, IsFormula}
 use Rattle.formula_table.specs.declared.enter_fault.EnterFault.{EnterFault}
 use Rattle.formula_table.specs.declared.enter_fault.EnterFault.TheVariants.{TermsFull, NodesFull, Memory}
-use Rattle.formula_table.proofs.EntryLaws.{enters_once-into, full_terms_once, full_terms_not_entered,
-    full_terms_not_lacking, lacking_nodes_once, lacking_nodes_not_entered}
+use Rattle.formula_table.proofs.EntryLaws.{enters_once-into, full_terms_once, full_terms_not_entered}
+use Rattle.formula_table.proofs.EntryLaws.{full_terms_not_lacking, lacking_nodes_once, lacking_nodes_not_entered}
 use Rattle.formula_table.specs.Formulas.{Formulas, IsFormulaTable, no_formulas}
 use Rattle.formula_table.proofs.StandLaws.{stands_after}
 use Rattle.match_graph.specs.GraphTerms.{adding, with_terms}
@@ -58,8 +58,8 @@ were_opened : (standing : List Done) (serial : ℕ) (level : Saved) (saved : Lis
     WereTables (then_op standing serial Push) (level ∷ saved)
 were_opened standing serial level saved terms formulas were =
     subst (λ (list : List Done). IsTable (terms_of list) × IsFormulaTable level.formulas ×
-        WereTables list saved) (sym (before_last-hit is_push standing (record { serial = serial; op = Push }) refl))
-        (terms, formulas, were)
+    WereTables list saved) (sym (before_last-hit is_push standing (record { serial = serial; op = Push }) refl))
+    (terms, formulas, were)
 
 -- they are when a level is opened
 pub tables_pushed : (now : Assertions) → AreTables now → AreTables (pushed now)
@@ -86,7 +86,7 @@ last-with_terms : (graph : GraphState) (rows : List TermRow) →
 last-with_terms graph [] = refl
 last-with_terms graph (row ∷ rows) =
     last-with_terms (state_after graph (adding row)) rows
-        ∙ before_last-miss is_push graph.standing (record { serial = graph.done; op = adding row }) refl
+    ∙ before_last-miss is_push graph.standing (record { serial = graph.done; op = adding row }) refl
 
 -- they are when a formula is asserted
 pub tables_asserted : (formula : Formula) (before after : Assertions) → IsFormula formula → AreTables before →
@@ -95,13 +95,13 @@ tables_asserted formula before after is are asserts =
     let added = asserts.enters.rows_grow.added in
     let grew : asserts.entered ≡ with_terms before.graph added = asserts.enters.rows_grow.grew in
     let all = stands_after (λ more. asserts.entered ≡ with_terms before.graph more) formula is
-        (terms_of before.graph.standing) before.graph.limit before.formulas after.formulas asserts.root asserts.enters
-        in
+    (terms_of before.graph.standing) before.graph.limit before.formulas after.formulas asserts.root asserts.enters
+    in
     let kept = asserts_terms after.formulas asserts.asserts in
     let terms : terms_of after.graph.standing ≡ terms_of before.graph.standing ++ added = kept.terms
-        ∙ ap (λ (graph : GraphState). terms_of graph.standing) grew ∙ terms-with_terms before.graph added in
+    ∙ ap (λ (graph : GraphState). terms_of graph.standing) grew ∙ terms-with_terms before.graph added in
     let last : before_last is_push after.graph.standing ≡ before_last is_push before.graph.standing = kept.last
-        ∙ ap (λ (graph : GraphState). before_last is_push graph.standing) grew ∙ last-with_terms before.graph added in
+    ∙ ap (λ (graph : GraphState). before_last is_push graph.standing) grew ∙ last-with_terms before.graph added in
     record {
       terms = subst IsTable (sym terms) (all.rows_stand are.terms);
       formulas = all.formulas_stand are.formulas;
@@ -118,8 +118,11 @@ were_lawful standing (level ∷ saved) lawful are =
 
 -- they are in what a stack holds
 pub tables_stand : (now : Assertions) → AreAssertions now → AreTables now
-tables_stand now are = record { terms = are.lawful.whole.table; formulas = are.formulas.table;
-    saved = were_lawful now.graph.standing now.saved are.lawful are.saved }
+tables_stand now are = record {
+  terms = are.lawful.whole.table;
+  formulas = are.formulas.table;
+  saved = were_lawful now.graph.standing now.saved are.lawful are.saved;
+}
 
 abbrev all_of : Held → Formulas → List Saved → Assertions
 all_of now formulas saved = record { graph = now.graph; formulas = formulas; asserted = now.asserted; saved = saved }
@@ -128,22 +131,22 @@ same_all : (one other : Assertions) → held_of one ≡ held_of other → one.fo
     one.saved ≡ other.saved → one ≡ other
 same_all one other holds formulas saved =
     ap (λ (now : Held). all_of now one.formulas one.saved) holds
-        ∙ ap (λ (table : Formulas). all_of (held_of other) table one.saved) formulas
-        ∙ ap (all_of (held_of other) other.formulas) saved
+    ∙ ap (λ (table : Formulas). all_of (held_of other) table one.saved) formulas
+    ∙ ap (all_of (held_of other) other.formulas) saved
 
 -- a formula is asserted in one way
 pub asserts_formula_once : (formula : Formula) (before one other : Assertions) → IsFormula formula →
     AreTables before → AssertsFormula formula before one → AssertsFormula formula before other → one ≡ other
 asserts_formula_once formula before one other is are first second =
     let entry = enters_once-into (with_terms before.graph) first.entered second.entered formula is
-        (terms_of before.graph.standing) are.terms before.graph.limit before.formulas are.formulas one.formulas
-        other.formulas first.root second.root first.enters second.enters in
+    (terms_of before.graph.standing) are.terms before.graph.limit before.formulas are.formulas one.formulas
+    other.formulas first.root second.root first.enters second.enters in
     let moved : Asserts one.formulas first.root (held first.entered before.asserted) (held_of other) =
     subst (λ (table : Formulas). Asserts table first.root (held first.entered before.asserted) (held_of other))
-        (sym entry.1)
+    (sym entry.1)
     (subst (λ (n : ℕ). Asserts other.formulas n (held first.entered before.asserted) (held_of other)) (sym entry.2)
     (subst (λ (graph : GraphState). Asserts other.formulas second.root (held graph before.asserted) (held_of other))
-        (sym entry.0) second.asserts)) in
+    (sym entry.0) second.asserts)) in
     same_all one other (asserts_once one.formulas first.asserts moved) entry.1 (first.saved_is ∙ sym second.saved_is)
 
 -- and then there was room for its terms
@@ -151,24 +154,24 @@ pub full_terms_not_asserted : (formula : Formula) (before one other : Assertions
     AreTables before → AssertsFormula formula before one → StopsAssert formula before other TermsFull → ⊥
 full_terms_not_asserted formula before one other is are asserts stops =
     full_terms_not_entered (λ more. other.graph ≡ with_terms before.graph more) (λ more. asserts.entered
-        ≡ with_terms before.graph more) formula is (terms_of before.graph.standing) are.terms before.graph.limit
-        before.formulas are.formulas one.formulas asserts.root stops.0 asserts.enters
+    ≡ with_terms before.graph more) formula is (terms_of before.graph.standing) are.terms before.graph.limit
+    before.formulas are.formulas one.formulas asserts.root stops.0 asserts.enters
 
 -- and for its nodes
 pub lacking_nodes_not_asserted : (formula : Formula) (before one other : Assertions) → IsFormula formula →
     AreTables before → AssertsFormula formula before one → StopsAssert formula before other NodesFull → ⊥
 lacking_nodes_not_asserted formula before one other is are asserts stops =
     lacking_nodes_not_entered (λ more. other.graph ≡ with_terms before.graph more) (λ more. asserts.entered
-        ≡ with_terms before.graph more) formula is (terms_of before.graph.standing) are.terms before.graph.limit
-        before.formulas are.formulas one.formulas asserts.root stops.0 asserts.enters
+    ≡ with_terms before.graph more) formula is (terms_of before.graph.standing) are.terms before.graph.limit
+    before.formulas are.formulas one.formulas asserts.root stops.0 asserts.enters
 
 -- where there is no room for its terms, it does not come to its nodes
 pub full_terms_not_lacking_nodes : (formula : Formula) (before one other : Assertions) → IsFormula formula →
     AreTables before → StopsAssert formula before one TermsFull → StopsAssert formula before other NodesFull → ⊥
 full_terms_not_lacking_nodes formula before one other is are first second =
     full_terms_not_lacking (λ more. one.graph ≡ with_terms before.graph more) (λ more. other.graph
-        ≡ with_terms before.graph more) formula is (terms_of before.graph.standing) are.terms before.graph.limit
-        before.formulas are.formulas first.0 second.0
+    ≡ with_terms before.graph more) formula is (terms_of before.graph.standing) are.terms before.graph.limit
+    before.formulas are.formulas first.0 second.0
 
 -- a formula that is asserted is not refused, but for want of memory
 pub asserted_not_stopped : (formula : Formula) (before one other : Assertions) (fault : EnterFault) →
@@ -184,7 +187,7 @@ kept_alike : (before one other : Assertions) → one.graph ≡ other.graph → K
     KeepsFormulas before other → one ≡ other
 kept_alike before one other graph first second =
     same_all one other (ap₂ held graph (first.asserted_are ∙ sym second.asserted_are)) (first.formulas_are
-        ∙ sym second.formulas_are) (first.saved_are ∙ sym second.saved_are)
+    ∙ sym second.formulas_are) (first.saved_are ∙ sym second.saved_are)
 
 -- a formula is refused in one way, but for want of memory
 pub stopped_once : (formula : Formula) (before one other : Assertions) (fault also : EnterFault) → IsFormula formula →
@@ -192,13 +195,13 @@ pub stopped_once : (formula : Formula) (before one other : Assertions) (fault al
     StopsAssert formula before other also → (fault ≡ also) × (one ≡ other)
 stopped_once formula before one other TermsFull TermsFull is are not so first second =
     let both = full_terms_once (λ more. one.graph ≡ with_terms before.graph more) (λ more. other.graph
-        ≡ with_terms before.graph more) formula is (terms_of before.graph.standing) are.terms before.graph.limit
-        before.formulas are.formulas first.0 second.0 in
+    ≡ with_terms before.graph more) formula is (terms_of before.graph.standing) are.terms before.graph.limit
+    before.formulas are.formulas first.0 second.0 in
     (refl, kept_alike before one other (both.grew ∙ sym both.also) first.1 second.1)
 stopped_once formula before one other NodesFull NodesFull is are not so first second =
     let both = lacking_nodes_once (λ more. one.graph ≡ with_terms before.graph more) (λ more. other.graph
-        ≡ with_terms before.graph more) formula is (terms_of before.graph.standing) are.terms before.graph.limit
-        before.formulas are.formulas first.0 second.0 in
+    ≡ with_terms before.graph more) formula is (terms_of before.graph.standing) are.terms before.graph.limit
+    before.formulas are.formulas first.0 second.0 in
     (refl, kept_alike before one other (both.grew ∙ sym both.also) first.1 second.1)
 stopped_once formula before one other TermsFull NodesFull is are not so first second = absurd
     (full_terms_not_lacking_nodes formula before one other is are first second)

@@ -24,19 +24,29 @@ held_of now = held now.graph now.asserted
 
 -- nothing is asserted, where there may be so many terms and nodes
 abbrev pub no_assertions : ℕ → ℕ → Assertions
-no_assertions terms nodes = record { graph = first_state terms; formulas = no_formulas nodes; asserted = [];
-    saved = [] }
+no_assertions terms nodes = record {
+  graph = first_state terms;
+  formulas = no_formulas nodes;
+  asserted = [];
+  saved = [];
+}
 
 -- a level is opened: the graph opens one, and the rest is saved
 abbrev pub pushed : Assertions → Assertions
-pushed now = record now { graph = state_after now.graph Push;
-    saved = record { formulas = now.formulas; asserted = now.asserted } ∷ now.saved }
+pushed now = record now {
+  graph = state_after now.graph Push;
+  saved = record { formulas = now.formulas; asserted = now.asserted } ∷ now.saved;
+}
 
 -- the graph ends its last level, and what was saved for the innermost level is given back
 abbrev pub restored : Assertions → List Saved → Assertions
 restored now [] = now
-restored now (level ∷ saved) = record { graph = state_after now.graph Pop; formulas = level.formulas;
-    asserted = level.asserted; saved = saved }
+restored now (level ∷ saved) = record {
+  graph = state_after now.graph Pop;
+  formulas = level.formulas;
+  asserted = level.asserted;
+  saved = saved;
+}
 
 -- the innermost level ends, if one is open
 abbrev pub popped : Assertions → Assertions

@@ -1,6 +1,6 @@
 -- What callers know of a draft that a row or a node was put into.
-use Rattle.std.proofs.Common.{◌≡◌, ℕ, Bool, List, [], ◌∷◌, ◌++◌, slice_get, Option, Some, None, refl, sym, ap,
-    append-nil}
+use Rattle.std.proofs.Common.{◌≡◌, ℕ, Bool, List, [], ◌∷◌, ◌++◌, slice_get}
+use Rattle.std.proofs.Common.{Option, Some, None, refl, sym, ap, append-nil}
 use Rattle.std.specs.Option.{option_map}
 use Rattle.std.proofs.lemmas.Option.{none-some, same_Some}
 use Rattle.graph_terms.proofs.ListLaws.{slice_get-push}
@@ -44,18 +44,22 @@ row_cases : (draft new : Draft) (n : ℕ) (o : Option (ℕ × List DraftRow)) �
     (new ≡ with_rows draft rows)
 row_cases draft new n None h = absurd (none-some (n, new) h)
 row_cases draft new n (Some put) h =
-    let both : rows_put draft put ≡ (n, new) = same_Some (rows_put draft put) (n, new) h in
-    (put.1, ap (λ (k : ℕ). Some (k, put.1)) (ap (λ (p : ℕ × Draft). p.0) both),
-        sym (ap (λ (p : ℕ × Draft). p.1) both))
+    let both : rows_put draft put ≡ (n, new) = same_Some (rows_put draft put) (n, new) h in (
+      put.1,
+      ap (λ (k : ℕ). Some (k, put.1)) (ap (λ (p : ℕ × Draft). p.0) both),
+      sym (ap (λ (p : ℕ × Draft). p.1) both),
+    )
 
 node_cases : (draft new : Draft) (n : ℕ) (o : Option (ℕ × List DraftNode)) →
     option_map (nodes_put draft) o ≡ Some (n, new) → (nodes : List DraftNode) × (o ≡ Some (n, nodes)) ×
     (new ≡ with_nodes draft nodes)
 node_cases draft new n None h = absurd (none-some (n, new) h)
 node_cases draft new n (Some put) h =
-    let both : nodes_put draft put ≡ (n, new) = same_Some (nodes_put draft put) (n, new) h in
-    (put.1, ap (λ (k : ℕ). Some (k, put.1)) (ap (λ (p : ℕ × Draft). p.0) both),
-        sym (ap (λ (p : ℕ × Draft). p.1) both))
+    let both : nodes_put draft put ≡ (n, new) = same_Some (nodes_put draft put) (n, new) h in (
+      put.1,
+      ap (λ (k : ℕ). Some (k, put.1)) (ap (λ (p : ℕ × Draft). p.0) both),
+      sym (ap (λ (p : ℕ × Draft). p.1) both),
+    )
 
 -- a row that was put stands under its number, and all else is as it was
 pub row_stands_at : (row : DraftRow) (draft new : Draft) (n : ℕ) → with_row row draft ≡ Some (n, new) →

@@ -1,6 +1,7 @@
 -- Items under their keys.
-use Rattle.std.proofs.Common.{◌≡◌, ℕ, zero, suc, ◌+◌, ◌<◌, ◌≤◌, Bool, true, false, cond, nat_eq, nat_lt, List, [],
-    ◌∷◌, ◌++◌, length, take, position, Option, Some, None, Vec, refl, sym, ap, subst, ◌∙◌, ⊎_elim, arith}
+use Rattle.std.proofs.Common.{◌≡◌, ℕ, zero, suc, ◌+◌, ◌<◌, ◌≤◌, Bool, true, false, cond}
+use Rattle.std.proofs.Common.{nat_eq, nat_lt, List, [], ◌∷◌, ◌++◌, length, take, position, Option, Some}
+use Rattle.std.proofs.Common.{None, Vec, refl, sym, ap, subst, ◌∙◌, ⊎_elim, arith}
 use Rattle.std.specs.declared.alloc.Global.{Global}
 use Rattle.std.specs.Option.{option_map}
 use Rattle.std.specs.Map.{keys_of, values_of, lookup}
@@ -78,11 +79,11 @@ module _ {X : Type 0} where
     place_of_item key item [] j keyed is = refl
     place_of_item key item (e ∷ entries) j keyed is =
         let first : same item e.1 ≡ pointwise nat_eq key.items e.0.items = sym (by_keys item e.1)
-            ∙ ap (λ k. pointwise nat_eq k (key_of e.1)) (sym is)
-            ∙ ap (pointwise nat_eq key.items) (sym (keyed 0 e refl)) in
+        ∙ ap (λ k. pointwise nat_eq k (key_of e.1)) (sym is)
+        ∙ ap (pointwise nat_eq key.items) (sym (keyed 0 e refl)) in
         ap (λ b. cond b (Some j) (position_from (same item) (j + 1) (values_of entries))) first
         ∙ ap (cond (pointwise nat_eq key.items e.0.items) (Some j))
-            (place_of_item key item entries (j + 1) (λ n. keyed (suc n)) is)
+        (place_of_item key item entries (j + 1) (λ n. keyed (suc n)) is)
 
     put_values : (most : ℕ) (key : Vec ℕ Global) (item : X) (entries : List (Vec ℕ Global × X)) (o : Option ℕ) →
         item_or_new most item (values_of entries) o ≡ option_map
@@ -98,12 +99,12 @@ module _ {X : Type 0} where
             ∙ ap (λ b. cond b (Some (length entries, values_of entries ++ item ∷ [])) None) room
             ∙ ap (λ items. Some (length entries, items)) (sym (values_of-push entries (key, item)))
             ∙ ap (λ b. option_map (λ (p : ℕ × List (Vec ℕ Global × X)). (p.0, values_of p.1))
-                (cond b (Some (length entries, entries ++ (key, item) ∷ [])) None)) (sym room)
+            (cond b (Some (length entries, entries ++ (key, item) ∷ [])) None)) (sym room)
         fits false room =
             ap (λ n. cond (nat_lt n most) (Some (n, values_of entries ++ item ∷ [])) None) (length-values_of entries)
             ∙ ap (λ b. cond b (Some (length entries, values_of entries ++ item ∷ [])) None) room
             ∙ ap (λ b. option_map (λ (p : ℕ × List (Vec ℕ Global × X)). (p.0, values_of p.1))
-                (cond b (Some (length entries, entries ++ (key, item) ∷ [])) None)) (sym room)
+            (cond b (Some (length entries, entries ++ (key, item) ∷ [])) None)) (sym room)
 
     -- an item is put as its entry is
     pub with_item-keyed : (most : ℕ) (key : Vec ℕ Global) (item : X) (entries : List (Vec ℕ Global × X)) →
@@ -136,8 +137,10 @@ module _ {X : Type 0} (same : X → X → Bool) (most : ℕ) (new : X) (items : 
     where
       room : (b : Bool) → nat_lt (length items) most ≡ b → P n after
       room true fits =
-          let put : Some (length items, items ++ new ∷ []) ≡ Some (n,
-              after) = ap (λ b. cond b (Some (length items, items ++ new ∷ [])) None) (sym fits) ∙ is in
+          let put : Some (length items, items ++ new ∷ []) ≡ Some (
+            n,
+            after,
+          ) = ap (λ b. cond b (Some (length items, items ++ new ∷ [])) None) (sym fits) ∙ is in
           let both = same_pair (length items) n (items ++ new ∷ []) after put in
           subst (λ k. P k after) both.0 (subst (P (length items)) both.1 (fresh refl (lt_from _ _ fits)))
       room false full = absurd (none-some (n, after) (ap (λ b. cond b (Some (length items, items ++ new ∷ [])) None)
@@ -154,8 +157,10 @@ pub AreKeyed-put : {X : Type 0} (key_of : X → List ℕ) (most : ℕ) (key : Ve
     (entries : List (Vec ℕ Global × X)) → AreKeyed key_of entries → key.items ≡ key_of item →
     (n : ℕ) (after : List (Vec ℕ Global × X)) → with_item same_key most (key, item) entries ≡ Some (n, after) →
     AreKeyed key_of after
-AreKeyed-put {X} key_of most key item entries keyed is = put_cases same_key most (key,
-    item) entries (λ _ after. AreKeyed key_of after) (λ _ _. keyed)
+AreKeyed-put {X} key_of most key item entries keyed is = put_cases same_key most (
+  key,
+  item,
+) entries (λ _ after. AreKeyed key_of after) (λ _ _. keyed)
     (λ _ _. AreKeyed-push key_of entries (key, item) keyed is)
 
 -- what came of putting an entry came of putting its item

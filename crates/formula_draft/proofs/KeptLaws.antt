@@ -1,6 +1,6 @@
 -- What stays lawful when a draft grows.
-use Rattle.std.proofs.Common.{◌≡◌, ℕ, ◌<◌, ◌≤◌, List, [], ◌∷◌, ◌++◌, length, Option, Some, None, All, refl, sym, ap,
-    subst, ⊎_elim, append-nil, arith}
+use Rattle.std.proofs.Common.{◌≡◌, ℕ, ◌<◌, ◌≤◌, List, [], ◌∷◌, ◌++◌, length, Option}
+use Rattle.std.proofs.Common.{Some, None, All, refl, sym, ap, subst, ⊎_elim, append-nil, arith}
 use Rattle.std.proofs.lemmas.List.{length-append, append-nil}
 use Rattle.std.proofs.lemmas.List.Elements.{All-weaker}
 use Rattle.std.specs.List.{position_from}
@@ -15,8 +15,8 @@ use Rattle.formula_draft.specs.declared.draft_forall.DraftForall.{DraftForall}
 use Rattle.formula_draft.specs.DraftRow.{same_row}
 use Rattle.formula_draft.specs.DraftNode.{rows_of, foralls_of, same_node}
 use Rattle.formula_draft.specs.Items.{with_item}
-use Rattle.formula_draft.specs.Draft.{Draft, AreLawful, IsDraft, FitsRow, FitsNode, FitsForall, with_row, with_node,
-    with_forall}
+use Rattle.formula_draft.specs.Draft.{Draft, AreLawful, IsDraft, FitsRow, FitsNode}
+use Rattle.formula_draft.specs.Draft.{FitsForall, with_row, with_node, with_forall}
 use Rattle.formula_draft.proofs.ItemLaws.{put_cases}
 use Rattle.formula_draft.proofs.SameLaws.{once-push, rows_told, nodes_told}
 use Rattle.formula_draft.proofs.ReachLaws.{back, node_back, row_back, node_stands, row_stands}
@@ -36,11 +36,11 @@ module _ (rows : List DraftRow) (nodes : List DraftNode) (foralls : List DraftFo
     no_forall = λ n index reach at.
         let old = node_back rows nodes foralls lawful new.body fits.body_stands more_rows more_nodes reach in
         fits.no_forall n index old (back nodes more_nodes n (Forall index)
-            (node_stands rows nodes foralls lawful new.body fits.body_stands old) at);
+        (node_stands rows nodes foralls lawful new.body fits.body_stands old) at);
     below = λ row index reach at.
         let old = row_back rows nodes foralls lawful new.body fits.body_stands more_rows more_nodes reach in
         fits.below row index old (back rows more_rows row (Var index)
-            (row_stands rows nodes foralls lawful new.body fits.body_stands old) at);
+        (row_stands rows nodes foralls lawful new.body fits.body_stands old) at);
     triggers_fit = fits.triggers_fit;
   }
 

@@ -26,7 +26,7 @@ module _ (rows : List DraftRow) (nodes : List DraftNode) (foralls : List DraftFo
   node_stands itself = within
   node_stands (part_of_it {n = n} {part = part} {node = node} above at is) =
       let lower : part < n = All-contains (λ p. p < n) (parts_of node) part (lawful.nodes_fit n node at).parts_stand
-          is in
+      is in
       let stands = node_stands above in
       omega arith
 

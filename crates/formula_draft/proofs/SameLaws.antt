@@ -1,6 +1,7 @@
 -- Rows and nodes are the same where their keys are.
-use Rattle.std.proofs.Common.{◌≡◌, ℕ, zero, suc, ◌+◌, Bool, true, false, cond, ◌&&◌, nat_eq, List, [], ◌∷◌, ◌++◌,
-    get_or, slice_get, Some, None, refl, sym, ap, ap₂, subst, ◌∙◌, ⊎_elim, arith, true≢false}
+use Rattle.std.proofs.Common.{◌≡◌, ℕ, zero, suc, ◌+◌, Bool, true, false, cond, ◌&&◌}
+use Rattle.std.proofs.Common.{nat_eq, List, [], ◌∷◌, ◌++◌, get_or, slice_get, Some, None, refl}
+use Rattle.std.proofs.Common.{sym, ap, ap₂, subst, ◌∙◌, ⊎_elim, arith, true≢false}
 use Rattle.std.specs.List.{position_from}
 use Rattle.std.specs.Cmp.Lexicographic.{pointwise, bytes_decides}
 use Rattle.std.proofs.lemmas.Option.{none-some, same_Some}
@@ -86,8 +87,12 @@ module _ {X : Type 0} (same : X → X → Bool) (told : Tells same) (new : X) wh
       by : (position_from (same new) (j + 1) items ≡ Some n → (k : ℕ) × (n ≡ (j + 1) + k) ×
           (slice_get items k ≡ Some new)) → (b : Bool) → same new x ≡ b → (k : ℕ) × (n ≡ j + k) ×
           (slice_get (x ∷ items) k ≡ Some new)
-      by more true is = (0, sym (same_Some j n (ap (λ b. cond b (Some j) (position_from (same new) (j + 1) items))
-          (sym is) ∙ h)) ∙ omega arith, ap Some (sym (told.equal new x is)))
+      by more true is = (
+        0,
+        sym (same_Some j n (ap (λ b. cond b (Some j) (position_from (same new) (j + 1) items))
+            (sym is) ∙ h)) ∙ omega arith,
+        ap Some (sym (told.equal new x is)),
+      )
       by more false is =
           let rest = more (ap (λ b. cond b (Some j) (position_from (same new) (j + 1) items)) (sym is) ∙ h) in
           (suc rest.0, omega (arith, rest.1), rest.2)
@@ -120,7 +125,7 @@ module _ {X : Type 0} (same : X → X → Bool) (told : Tells same) (new : X) wh
       slice_get (items ++ new ∷ []) m ≡ Some x → slice_get (items ++ new ∷ []) n ≡ Some x → m ≡ n
   once-push items h once m n x at_m at_n =
       ⊎_elim (λ old. ⊎_elim (once m n x old) (λ p. absurd (absent items h m (old ∙ ap Some p.1)))
-          (push_cases items new n x at_n))
+      (push_cases items new n x at_n))
       (λ fresh. ⊎_elim (λ old. absurd (absent items h n (old ∙ ap Some fresh.1))) (λ p. fresh.0 ∙ sym p.0)
-          (push_cases items new n x at_n))
+      (push_cases items new n x at_n))
       (push_cases items new m x at_m)

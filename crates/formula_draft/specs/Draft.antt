@@ -1,6 +1,6 @@
 -- A formula under way: its rows, nodes and foralls, and what holds of them.
-use Rattle.std.specs.Prelude.{◌≡◌, ℕ, ◌<◌, ◌≤◌, List, [], ◌∷◌, ◌++◌, length, slice_get, Option, Some, None,
-    option_map, All}
+use Rattle.std.specs.Prelude.{◌≡◌, ℕ, ◌<◌, ◌≤◌, List, [], ◌∷◌, ◌++◌}
+use Rattle.std.specs.Prelude.{length, slice_get, Option, Some, None, option_map, All}
 use Rattle.graph_trigger.specs.declared.trigger.Trigger.{Trigger}
 use Rattle.graph_trigger.specs.Trigger.{IsValid}
 use Rattle.formula_draft.specs.declared.draft_row.DraftRow.{DraftRow}
@@ -25,8 +25,13 @@ pub record Draft : Type 0 where
 
 -- nothing yet
 abbrev pub empty_draft : ℕ → ℕ → Draft
-empty_draft most_rows most_nodes = record { rows = []; nodes = []; foralls = []; most_rows = most_rows;
-    most_nodes = most_nodes }
+empty_draft most_rows most_nodes = record {
+  rows = [];
+  nodes = [];
+  foralls = [];
+  most_rows = most_rows;
+  most_nodes = most_nodes;
+}
 
 -- the number of a row, and the draft with it: it stands, or it is put last, or there is no room for it
 abbrev pub with_row : DraftRow → Draft → Option (ℕ × Draft)

@@ -9,8 +9,13 @@ use Rattle.formula_draft.specs.Draft.{Draft}
 
 -- the draft that the fields hold
 abbrev pub draft_of : Inside → Draft
-draft_of inside = record { rows = values inside.rows; nodes = values inside.nodes; foralls = inside.foralls.items;
-    most_rows = inside.most_rows; most_nodes = inside.most_nodes }
+draft_of inside = record {
+  rows = values inside.rows;
+  nodes = values inside.nodes;
+  foralls = inside.foralls.items;
+  most_rows = inside.most_rows;
+  most_nodes = inside.most_nodes;
+}
 
 -- rows and nodes stand under their keys and within the limits, and numbers fit
 pub record IsKept (inside : Inside) : Type 0 where

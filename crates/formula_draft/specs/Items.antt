@@ -1,6 +1,6 @@
 -- Lists in which no item stands twice, and the keys of their items.
-use Rattle.std.specs.Prelude.{◌≡◌, ℕ, Bool, List, [], ◌∷◌, ◌++◌, length, slice_get, nat_eq, nat_lt, if◌then◌else◌,
-    Option, Some, None, Vec}
+use Rattle.std.specs.Prelude.{◌≡◌, ℕ, Bool, List, [], ◌∷◌, ◌++◌, length}
+use Rattle.std.specs.Prelude.{slice_get, nat_eq, nat_lt, if◌then◌else◌, Option, Some, None, Vec}
 use Rattle.std.specs.List.{position_from}
 use Rattle.std.specs.Cmp.Lexicographic.{pointwise}
 use Rattle.std.specs.declared.alloc.Global.{Global}
@@ -9,8 +9,10 @@ module _ {X : Type 0} where
   -- the number that an item was found under; else it is put last, where there is room
   abbrev pub item_or_new : ℕ → X → List X → Option ℕ → Option (ℕ × List X)
   item_or_new most new items (Some n) = Some (n, items)
-  item_or_new most new items None = if nat_lt (length items) most then Some (length items,
-      items ++ new ∷ []) else None
+  item_or_new most new items None = if nat_lt (length items) most then Some (
+    length items,
+    items ++ new ∷ [],
+  ) else None
 
   -- the number of an item, and the items with it: it stands, or it is put last, or there is no room for it
   abbrev pub with_item : (X → X → Bool) → ℕ → X → List X → Option (ℕ × List X)

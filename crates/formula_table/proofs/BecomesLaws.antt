@@ -18,22 +18,30 @@ module _ (formula : Formula) (is : IsFormula formula) where
       BecomesRow formula terms n x
   row_becomes terms n reach =
       let at = element_at formula.rows n (row_stands formula.rows formula.nodes formula.foralls is.lawful formula.root
-          is.root_stands reach) in
+      is.root_stands reach) in
       by at.0 at.1
     where
       by : (row : DraftRow) → slice_get formula.rows n ≡ Some row → (x : TermRow) × BecomesRow formula terms n x
       by (Var index) at = absurd (is.closed n index reach at)
-      by (App symbol args) at = (entered_row terms symbol args,
-          record { symbol = symbol; args = args; reached = reach; stands = at; row_is = refl })
+      by (App symbol args) at = (
+        entered_row terms symbol args,
+        record { symbol = symbol; args = args; reached = reach; stands = at; row_is = refl },
+      )
 
   -- a reached node becomes a node of the table
   pub node_becomes : (terms foralls numbers : List ℕ) (n : ℕ) → ReachesNode formula.nodes formula.root n →
       (x : Node) × BecomesNode formula terms foralls numbers n x
   node_becomes terms foralls numbers n reach =
       let at = element_at formula.nodes n (node_stands formula.rows formula.nodes formula.foralls is.lawful
-          formula.root is.root_stands reach) in
-      (entered_node terms foralls numbers at.0, record { draft_node = at.0; reached = reach; stands = at.1;
-          node_is = refl })
+      formula.root is.root_stands reach) in (
+        entered_node terms foralls numbers at.0,
+        record {
+          draft_node = at.0;
+          reached = reach;
+          stands = at.1;
+          node_is = refl;
+        },
+      )
 
   -- a reached forall stands
   pub forall_stands : (index : ℕ) → ReachesForall formula index → index < length formula.foralls

@@ -1,6 +1,6 @@
 -- A formula is entered in one way.
-use Rattle.std.proofs.Common.{◌≡◌, ◌≢◌, ℕ, ◌<◌, ◌↔◌, min, max, List, [], ◌∷◌, ◌++◌, length, map, slice_get, Some,
-    Contains, refl, sym, ap, ap₂, subst, ◌∙◌, ⊎_elim, arith}
+use Rattle.std.proofs.Common.{◌≡◌, ◌≢◌, ℕ, ◌<◌, ◌↔◌, min, max, List, [], ◌∷◌, ◌++◌, length}
+use Rattle.std.proofs.Common.{map, slice_get, Some, Contains, refl, sym, ap, ap₂, subst, ◌∙◌, ⊎_elim, arith}
 use Rattle.std.specs.Prelude.{slice_index}
 use Rattle.std.proofs.lemmas.Bool.{cases_lt}
 use Rattle.std.proofs.lemmas.List.{same_lists}
@@ -29,8 +29,9 @@ use Rattle.formula_table.specs.Formulas.{Formulas, IsFormulaTable}
 use Rattle.formula_table.specs.InOrder.{AreInOrder}
 use Rattle.formula_table.proofs.BecomesLaws.{row_becomes, node_becomes, forall_stands}
 use Rattle.formula_table.proofs.InOrderLaws.{one_in_order, full_stops}
-use Rattle.formula_table.specs.Entry.{BecomesRow, BecomesNode, ReachesForall, RowsGrow, ForallsGrow, NodesGrow,
-    FillsTerms, FillsNodes, Enters, LacksNodes, StopsEntry, entered_row, entered_node}
+use Rattle.formula_table.specs.Entry.{BecomesRow, BecomesNode, ReachesForall, RowsGrow, ForallsGrow}
+use Rattle.formula_table.specs.Entry.{NodesGrow, FillsTerms, FillsNodes, Enters, LacksNodes}
+use Rattle.formula_table.specs.Entry.{StopsEntry, entered_row, entered_node}
 
 -- functions that agree on the elements make one list
 map_same : (f g : ℕ → ℕ) (xs : List ℕ) → ((x : ℕ) → Contains xs x → f x ≡ g x) → map f xs ≡ map g xs
@@ -45,10 +46,20 @@ module _ (formula : Formula) (is : IsFormula formula) where
       slice_index terms m ≡ slice_index others m) → (x : TermRow) →
       BecomesRow formula terms n x ↔ BecomesRow formula others n x
   row_step terms others n agree x = (
-    λ b. record { symbol = b.symbol; args = b.args; reached = b.reached; stands = b.stands;
-        row_is = b.row_is ∙ equal b.symbol b.args b.reached b.stands },
-    λ b. record { symbol = b.symbol; args = b.args; reached = b.reached; stands = b.stands;
-        row_is = b.row_is ∙ sym (equal b.symbol b.args b.reached b.stands) },
+    λ b. record {
+      symbol = b.symbol;
+      args = b.args;
+      reached = b.reached;
+      stands = b.stands;
+      row_is = b.row_is ∙ equal b.symbol b.args b.reached b.stands;
+    },
+    λ b. record {
+      symbol = b.symbol;
+      args = b.args;
+      reached = b.reached;
+      stands = b.stands;
+      row_is = b.row_is ∙ sym (equal b.symbol b.args b.reached b.stands);
+    },
   )
     where
       equal : (symbol : ℕ) (args : List ℕ) → ReachesRow formula.rows formula.nodes formula.root n →
@@ -57,7 +68,7 @@ module _ (formula : Formula) (is : IsFormula formula) where
       equal symbol args reach at = ap (term_row symbol) (map_same (slice_index terms) (slice_index others) args
           (λ arg c.
           let lower : arg < n = All-contains (λ a. a < n) args arg (is.lawful.rows_fit n (App symbol args) at).args c
-              in
+          in
           let becomes = row_becomes formula is terms arg (argument reach at c) in
           agree arg becomes.0 lower becomes.1))
 
@@ -68,16 +79,16 @@ module _ (formula : Formula) (is : IsFormula formula) where
         ((n : ℕ) → ReachesRow formula.rows formula.nodes formula.root n → slice_index terms n ≡ slice_index others n)
     one_rows G H terms others one other =
         let first = subst (λ n. AreInOrder (BecomesRow formula terms) rows limit n one.added terms) one.all one.enters
-            in
+        in
         let second = subst (λ n. AreInOrder (BecomesRow formula others) rows limit n other.added others) other.all
-            other.enters in
+        other.enters in
         let same = one_in_order (BecomesRow formula terms) (BecomesRow formula others) rows limit terms others
-            table.once (row_step terms others) (length formula.rows) one.added other.added first second in (
+        table.once (row_step terms others) (length formula.rows) one.added other.added first second in (
           same.0,
           λ n reach.
               let becomes = row_becomes formula is terms n reach in
               same.1 n becomes.0 (row_stands formula.rows formula.nodes formula.foralls is.lawful formula.root
-                  is.root_stands reach) becomes.1,
+              is.root_stands reach) becomes.1,
         )
 
     -- where there is no room for a term, not all rows are entered
@@ -85,28 +96,28 @@ module _ (formula : Formula) (is : IsFormula formula) where
         RowsGrow H formula rows limit terms → ⊥
     full_terms_not_grown G H terms fills grows =
         let within = slice_get_within formula.rows (length fills.terms) (App fills.full.1.symbol fills.full.1.args)
-            fills.full.1.stands in
+        fills.full.1.stands in
         full_stops (BecomesRow formula fills.terms) (BecomesRow formula terms) rows limit fills.terms terms table.once
-            (row_step fills.terms terms) (length fills.terms) (length terms) fills.added grows.added fills.enters
-            fills.full (omega (arith, within, grows.all)) grows.enters
+        (row_step fills.terms terms) (length fills.terms) (length terms) fills.added grows.added fills.enters
+        fills.full (omega (arith, within, grows.all)) grows.enters
 
     -- and it stops behind the same terms
     pub full_terms_added : (G H : List TermRow → Type 0) (one : FillsTerms G formula rows limit)
         (other : FillsTerms H formula rows limit) → one.added ≡ other.added
     full_terms_added G H one other = ⊎_elim
         (λ less. absurd (full_stops (BecomesRow formula one.terms) (BecomesRow formula other.terms) rows limit
-            one.terms other.terms table.once (row_step one.terms other.terms) (length one.terms) (length other.terms)
-            one.added other.added one.enters one.full less other.enters))
+        one.terms other.terms table.once (row_step one.terms other.terms) (length one.terms) (length other.terms)
+        one.added other.added one.enters one.full less other.enters))
         (λ not_less. ⊎_elim
         (λ more. absurd (full_stops (BecomesRow formula other.terms) (BecomesRow formula one.terms) rows limit
-            other.terms one.terms table.once (row_step other.terms one.terms) (length other.terms) (length one.terms)
-            other.added one.added other.enters other.full more one.enters))
+        other.terms one.terms table.once (row_step other.terms one.terms) (length other.terms) (length one.terms)
+        other.added one.added other.enters other.full more one.enters))
         (λ not_more.
         let counts : length other.terms ≡ length one.terms = omega (arith, not_less, not_more) in
         let second = subst (λ n. AreInOrder (BecomesRow formula other.terms) rows limit n other.added other.terms)
-            counts other.enters in
+        counts other.enters in
         (one_in_order (BecomesRow formula one.terms) (BecomesRow formula other.terms) rows limit one.terms other.terms
-            table.once (row_step one.terms other.terms) (length one.terms) one.added other.added one.enters second).0)
+        table.once (row_step one.terms other.terms) (length one.terms) one.added other.added one.enters second).0)
         (cases_lt (length other.terms) (length one.terms)))
         (cases_lt (length one.terms) (length other.terms))
 
@@ -128,7 +139,7 @@ module _ (formula : Formula) (is : IsFormula formula) where
         let forall = element_at formula.foralls index within in
         let first = one.enters.each k index forall.0 thing forall.1 in
         let second = other.enters.each k index forall.0 (ap (λ xs. slice_get xs k) (sym same_reached) ∙ thing)
-            forall.1 in
+        forall.1 in
         (first.0 ∙ sym second.0, first.1 ∙ sym second.1)
 
     pub one_foralls : (added ≡ more) × ((index : ℕ) → ReachesForall formula index →
@@ -141,11 +152,11 @@ module _ (formula : Formula) (is : IsFormula formula) where
           let item = element_at added k within in
           let same = both_say k thing.0 thing.1 (omega (arith, reached.0, one.all)) in
           get_or_from_slice_get added k item.0 d item.1 ∙ sym
-              (get_or_from_slice_get more k item.0 d (sym same.1 ∙ item.1))),
+          (get_or_from_slice_get more k item.0 d (sym same.1 ∙ item.1))),
       λ index reach.
           let stands = forall_stands formula is index reach in
           let place = place_from_Contains one.enters.reached index
-              ((one.enters.all.exact index).1 (omega (arith, stands, one.all), reach)) in
+          ((one.enters.all.exact index).1 (omega (arith, stands, one.all), reach)) in
           (both_say place.0 index place.1 stands).0,
     )
 
@@ -175,10 +186,18 @@ module _ (formula : Formula) (is : IsFormula formula) where
         BecomesNode formula terms foralls numbers m x → slice_index numbers m ≡ slice_index others m) → (x : Node) →
         BecomesNode formula terms foralls numbers n x ↔ BecomesNode formula other_terms other_foralls others n x
     node_step numbers others n agree x = (
-      λ b. record { draft_node = b.draft_node; reached = b.reached; stands = b.stands;
-          node_is = b.node_is ∙ equal b.draft_node b.reached b.stands },
-      λ b. record { draft_node = b.draft_node; reached = b.reached; stands = b.stands;
-          node_is = b.node_is ∙ sym (equal b.draft_node b.reached b.stands) },
+      λ b. record {
+        draft_node = b.draft_node;
+        reached = b.reached;
+        stands = b.stands;
+        node_is = b.node_is ∙ equal b.draft_node b.reached b.stands;
+      },
+      λ b. record {
+        draft_node = b.draft_node;
+        reached = b.reached;
+        stands = b.stands;
+        node_is = b.node_is ∙ sym (equal b.draft_node b.reached b.stands);
+      },
     )
       where
         equal : (node : DraftNode) → ReachesNode formula.nodes formula.root n →
@@ -186,7 +205,7 @@ module _ (formula : Formula) (is : IsFormula formula) where
             ≡ entered_node other_terms other_foralls others node
         equal node reach at = entered_same numbers others n node reach at (λ part c.
             let lower : part < n = All-contains (λ p. p < n) (parts_of node) part
-                (is.lawful.nodes_fit n node at).parts_stand c in
+            (is.lawful.nodes_fit n node at).parts_stand c in
             let becomes = node_becomes formula is terms foralls numbers part (part_of_it reach at c) in
             agree part becomes.0 lower becomes.1)
 
@@ -201,23 +220,25 @@ module _ (formula : Formula) (is : IsFormula formula) where
           let first = subst (λ n. AreInOrder P old.nodes old.limit n added one.numbers) one.all one.enters in
           let second = subst (λ n. AreInOrder Q old.nodes old.limit n more other.numbers) other.all other.enters in
           let same = one_in_order P Q old.nodes old.limit one.numbers other.numbers table.once
-              (node_step one.numbers other.numbers) (length formula.nodes) added more first second in
-          let becomes = node_becomes formula is terms foralls one.numbers formula.root itself in
-          (same.0, sym (get_or_from_slice_get one.numbers formula.root number 0 one.root)
-              ∙ same.1 formula.root becomes.0 is.root_stands becomes.1
-              ∙ get_or_from_slice_get other.numbers formula.root other_number 0 other.root)
+          (node_step one.numbers other.numbers) (length formula.nodes) added more first second in
+          let becomes = node_becomes formula is terms foralls one.numbers formula.root itself in (
+            same.0,
+            sym (get_or_from_slice_get one.numbers formula.root number 0 one.root)
+                ∙ same.1 formula.root becomes.0 is.root_stands becomes.1
+                ∙ get_or_from_slice_get other.numbers formula.root other_number 0 other.root,
+          )
 
       -- where there is no room for a node, not all nodes are entered
       pub full_nodes_not_grown : (more : List Node) (number : ℕ) → FillsNodes formula terms foralls old →
           NodesGrow formula other_terms other_foralls old more number → ⊥
       full_nodes_not_grown more number fills grows =
           let within = slice_get_within formula.nodes (length fills.numbers) fills.full.1.draft_node
-              fills.full.1.stands in
+          fills.full.1.stands in
           full_stops (BecomesNode formula terms foralls fills.numbers)
-              (BecomesNode formula other_terms other_foralls grows.numbers) old.nodes old.limit fills.numbers
-              grows.numbers table.once (node_step fills.numbers grows.numbers) (length fills.numbers)
-              (length grows.numbers) fills.added more fills.enters fills.full (omega (arith, within, grows.all))
-              grows.enters
+          (BecomesNode formula other_terms other_foralls grows.numbers) old.nodes old.limit fills.numbers
+          grows.numbers table.once (node_step fills.numbers grows.numbers) (length fills.numbers)
+          (length grows.numbers) fills.added more fills.enters fills.full (omega (arith, within, grows.all))
+          grows.enters
 
 -- the same terms were added in both ways
 pub record OneGrowth (G H : List TermRow → Type 0) : Type 0 where
@@ -240,13 +261,13 @@ module _ (G H : List TermRow → Type 0) (formula : Formula) (is : IsFormula for
       Enters H formula rows limit old other other_number → OneEntry G H new other number other_number
   enters_once new other number other_number first second =
       let terms = one_rows formula is rows table limit G H first.terms second.terms first.rows_grow second.rows_grow
-          in
+      in
       let one = first.table_grows in
       let two = second.table_grows in
       let foralls = one_foralls formula is old.foralls one.foralls two.foralls one.forall_numbers two.forall_numbers
-          one.foralls_grow two.foralls_grow in
+      one.foralls_grow two.foralls_grow in
       let nodes = one_nodes formula is first.terms second.terms one.forall_numbers two.forall_numbers terms.1
-          foralls.1 old is_table one.nodes two.nodes number other_number one.nodes_grow two.nodes_grow in
+      foralls.1 old is_table one.nodes two.nodes number other_number one.nodes_grow two.nodes_grow in
       record {
         added = first.rows_grow.added;
         grew = first.rows_grow.grew;
@@ -256,8 +277,11 @@ module _ (G H : List TermRow → Type 0) (formula : Formula) (is : IsFormula for
       }
     where
       with_both : List Node → List TableForall → Formulas
-      with_both nodes foralls = record { nodes = old.nodes ++ nodes; foralls = old.foralls ++ foralls;
-          limit = old.limit }
+      with_both nodes foralls = record {
+        nodes = old.nodes ++ nodes;
+        foralls = old.foralls ++ foralls;
+        limit = old.limit;
+      }
 
   -- a formula with no room for its terms is not entered
   pub full_terms_not_entered : (new : Formulas) (number : ℕ) → FillsTerms G formula rows limit →
@@ -275,25 +299,31 @@ module _ (G H : List TermRow → Type 0) (formula : Formula) (is : IsFormula for
       Enters H formula rows limit old new number → ⊥
   lacking_nodes_not_entered new number lacks enters =
       let terms = one_rows formula is rows table limit G H lacks.terms enters.terms lacks.rows_grow enters.rows_grow
-          in
+      in
       let one = lacks.fills in
       let two = enters.table_grows in
       let foralls = one_foralls formula is old.foralls one.foralls two.foralls one.forall_numbers two.forall_numbers
-          one.foralls_grow two.foralls_grow in
+      one.foralls_grow two.foralls_grow in
       full_nodes_not_grown formula is lacks.terms enters.terms one.forall_numbers two.forall_numbers terms.1 foralls.1
-          old is_table two.nodes number one.fills two.nodes_grow
+      old is_table two.nodes number one.fills two.nodes_grow
 
   -- where there is no room for the terms, the same ones were added
   pub full_terms_once : FillsTerms G formula rows limit → FillsTerms H formula rows limit → OneGrowth G H
-  full_terms_once one other = record { added = one.added; grew = one.grew;
-      also = subst H (sym (full_terms_added formula is rows table limit G H one other)) other.grew }
+  full_terms_once one other = record {
+    added = one.added;
+    grew = one.grew;
+    also = subst H (sym (full_terms_added formula is rows table limit G H one other)) other.grew;
+  }
 
   -- and so where there is no room for the nodes
   pub lacking_nodes_once : LacksNodes G formula rows limit old → LacksNodes H formula rows limit old → OneGrowth G H
   lacking_nodes_once one other =
       let terms = one_rows formula is rows table limit G H one.terms other.terms one.rows_grow other.rows_grow in
-      record { added = one.rows_grow.added; grew = one.rows_grow.grew;
-          also = subst H (sym terms.0) other.rows_grow.grew }
+      record {
+        added = one.rows_grow.added;
+        grew = one.rows_grow.grew;
+        also = subst H (sym terms.0) other.rows_grow.grew;
+      }
 
 -- but for want of memory, a formula that is entered is not refused
 pub stopped_not_entered : (G H refused : List TermRow → Type 0) (formula : Formula) → IsFormula formula →
@@ -312,14 +342,18 @@ pub stops_once : (G H refused others : List TermRow → Type 0) (formula : Formu
     (fault other : EnterFault) → (fault ≢ Memory) → (other ≢ Memory) →
     StopsEntry G refused formula rows limit old fault → StopsEntry H others formula rows limit old other →
     (fault ≡ other) × OneGrowth G H
-stops_once G H refused others formula is rows table limit old is_table TermsFull TermsFull not also one two = (refl,
-    full_terms_once G H formula is rows table limit old is_table one two)
+stops_once G H refused others formula is rows table limit old is_table TermsFull TermsFull not also one two = (
+  refl,
+  full_terms_once G H formula is rows table limit old is_table one two,
+)
 stops_once G H refused others formula is rows table limit old is_table TermsFull NodesFull not also one two = absurd
     (full_terms_not_lacking G H formula is rows table limit old is_table one two)
 stops_once G H refused others formula is rows table limit old is_table NodesFull TermsFull not also one two = absurd
     (full_terms_not_lacking H G formula is rows table limit old is_table two one)
-stops_once G H refused others formula is rows table limit old is_table NodesFull NodesFull not also one two = (refl,
-    lacking_nodes_once G H formula is rows table limit old is_table one two)
+stops_once G H refused others formula is rows table limit old is_table NodesFull NodesFull not also one two = (
+  refl,
+  lacking_nodes_once G H formula is rows table limit old is_table one two,
+)
 stops_once G H refused others formula is rows table limit old is_table TermsFull Memory not also one two = absurd
     (also refl)
 stops_once G H refused others formula is rows table limit old is_table NodesFull Memory not also one two = absurd
@@ -332,9 +366,9 @@ pub enters_once-into : {State : Type 0} (grow : List TermRow → State) (later a
     IsFormula formula → (rows : List TermRow) → IsTable rows → (limit : ℕ) (old : Formulas) → IsFormulaTable old →
     (new other : Formulas) (number other_number : ℕ)
     → Enters (λ more. later ≡ grow more) formula rows limit old new number →
-        Enters (λ more. also ≡ grow more) formula rows limit old other other_number → (later ≡ also) × (new ≡ other) ×
-        (number ≡ other_number)
+    Enters (λ more. also ≡ grow more) formula rows limit old other other_number → (later ≡ also) × (new ≡ other) ×
+    (number ≡ other_number)
 enters_once-into grow later also formula is rows table limit old is_table new other number other_number first second =
     let one = enters_once (λ more. later ≡ grow more) (λ more. also ≡ grow more) formula is rows table limit old
-        is_table new other number other_number first second in
+    is_table new other number other_number first second in
     (one.grew ∙ sym one.also, one.table_is, one.number_is)

@@ -1,6 +1,6 @@
 -- What stays a table of formulas.
-use Rattle.std.proofs.Common.{◌≡◌, ℕ, zero, suc, ◌+◌, ◌<◌, ◌⊎◌, List, [], ◌∷◌, ◌++◌, length, slice_get, Some, All,
-    sym, ap, subst, ◌∙◌, inl, inr, ⊎_elim, arith}
+use Rattle.std.proofs.Common.{◌≡◌, ℕ, zero, suc, ◌+◌, ◌<◌, ◌⊎◌, List, [], ◌∷◌, ◌++◌, length}
+use Rattle.std.proofs.Common.{slice_get, Some, All, sym, ap, subst, ◌∙◌, inl, inr, ⊎_elim, arith}
 use Rattle.std.proofs.lemmas.List.{length-append}
 use Rattle.std.proofs.lemmas.List.Elements.{All-nil}
 use Rattle.graph_terms.proofs.ListLaws.{push_cases}
@@ -39,9 +39,9 @@ IsFormulaTable-push table is node fits nowhere room = record {
       (λ p. subst (FitsTable table) (sym p.1) fits) (push_cases table.nodes node n (Equal positive left right) at);
   once = λ m n x at_m at_n.
       ⊎_elim (λ old. ⊎_elim (is.once m n x old) (λ p. absurd (nowhere m (old ∙ ap Some p.1)))
-          (push_cases table.nodes node n x at_n))
+      (push_cases table.nodes node n x at_n))
       (λ new. ⊎_elim (λ old. absurd (nowhere n (old ∙ ap Some new.1))) (λ p. new.0 ∙ sym p.0)
-          (push_cases table.nodes node n x at_n))
+      (push_cases table.nodes node n x at_n))
       (push_cases table.nodes node m x at_m);
   foralls_stand = λ n forall at. ⊎_elim (is.foralls_stand n forall) (λ p. subst (FitsTable table) (sym p.1) fits)
       (push_cases table.nodes node n (Forall forall) at);

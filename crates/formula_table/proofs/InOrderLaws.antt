@@ -1,6 +1,6 @@
 -- Things become items, one after another, in one way.
-use Rattle.std.proofs.Common.{◌≡◌, ℕ, zero, suc, ◌+◌, ◌-◌, ◌<◌, ◌≤◌, ◌⊎◌, ◌↔◌, List, [], ◌∷◌, ◌++◌, length, get_or,
-    slice_get, Some, refl, sym, ap, subst, ◌∙◌, inl, inr, ⊎_elim, append_assoc, arith}
+use Rattle.std.proofs.Common.{◌≡◌, ℕ, zero, suc, ◌+◌, ◌-◌, ◌<◌, ◌≤◌, ◌⊎◌, ◌↔◌, List, [], ◌∷◌, ◌++◌, length, get_or}
+use Rattle.std.proofs.Common.{slice_get, Some, refl, sym, ap, subst, ◌∙◌, inl, inr, ⊎_elim, append_assoc, arith}
 use Rattle.std.specs.Prelude.{slice_index}
 use Rattle.std.proofs.lemmas.Bool.{cases_lt}
 use Rattle.std.proofs.lemmas.List.{length-append, get_or_append_left}
@@ -34,9 +34,9 @@ module _ {X : Type 0} where
     none_added added is = ⊎_elim (λ none. none)
         (λ more.
         let item : slice_get added (length more.0) ≡ Some more.1 = ap (λ xs. slice_get xs (length more.0)) more.2
-            ∙ slice_get-push more.0 more.1 in
+        ∙ slice_get-push more.0 more.1 in
         let thing = element_at is.things (length more.0) (let within = slice_get_within added (length more.0) more.1
-            item in omega (arith, within, is.count)) in
+        item in omega (arith, within, is.count)) in
         absurd (let was = is.each (length more.0) thing.0 more.1 thing.1 item in omega (arith, was.0)))
         (last_cases added)
 
@@ -77,8 +77,14 @@ module _ {X : Type 0} where
             (push_cases earlier last k m (ap (λ xs. slice_get xs k) (sym things_are) ∙ at))
 
         as_many : (front : List X) (item : X) → added ≡ front ++ item ∷ [] → length earlier ≡ length front
-        as_many front item added_is = omega (arith, is.count, ap length things_are, ap length added_is,
-            length-append earlier (last ∷ []), length-append front (item ∷ []))
+        as_many front item added_is = omega (
+          arith,
+          is.count,
+          ap length things_are,
+          ap length added_is,
+          length-append earlier (last ∷ []),
+          length-append front (item ∷ []),
+        )
 
         module _ (at : last ≡ n) (front : List X) (item : X) (added_is : added ≡ front ++ item ∷ []) where
           this_thing : slice_get is.things (length front) ≡ Some n
@@ -111,8 +117,13 @@ module _ {X : Type 0} where
           has_room : length (items ++ front) < limit
           has_room = ⊎_elim
               (λ none. absurd (omega (arith, none, ap length added_is, length-append front (item ∷ []))))
-              (λ room. omega (arith, room, ap length added_is, length-append front (item ∷ []),
-                  length-append items front))
+              (λ room. omega (
+                arith,
+                room,
+                ap length added_is,
+                length-append front (item ∷ []),
+                length-append items front,
+              ))
               is.room
 
           -- the last of the things put an item last
@@ -125,22 +136,28 @@ module _ {X : Type 0} where
               stand = λ m x less becomes. ⊎_elim
                   (λ old. old)
                   (λ new. absurd (is.first (length front) m n item this_thing this_item less
-                      (subst (Becomes m) new.1 becomes)))
+                  (subst (Becomes m) new.1 becomes)))
                   (push_cases (items ++ front) item (slice_index numbers m) x
-                      (ap (λ xs. slice_get xs (slice_index numbers m)) (sym all_items)
-                      ∙ is.stand m x (omega (arith, less)) becomes));
+                  (ap (λ xs. slice_get xs (slice_index numbers m)) (sym all_items)
+                  ∙ is.stand m x (omega (arith, less)) becomes));
               things = earlier;
               rising = λ i j d less within.
-                  let up = is.rising i j d less (omega (arith, within, ap length things_are,
-                      length-append earlier (last ∷ []))) in
+                  let up = is.rising i j d less (omega (
+                    arith,
+                    within,
+                    ap length things_are,
+                    length-append earlier (last ∷ []),
+                  )) in
                   let this : get_or is.things i d ≡ get_or earlier i d = ap (λ xs. get_or xs i d) things_are
-                      ∙ get_or_append_left earlier (last ∷ []) d i (omega (arith, less, within)) in
+                  ∙ get_or_append_left earlier (last ∷ []) d i (omega (arith, less, within)) in
                   let that : get_or is.things j d ≡ get_or earlier j d = ap (λ xs. get_or xs j d) things_are
-                      ∙ get_or_append_left earlier (last ∷ []) d j within in
+                  ∙ get_or_append_left earlier (last ∷ []) d j within in
                   omega (arith, up, this, that);
               count = as_many front item added_is;
-              each = λ k m x thing found. (let low = lower k m thing in omega (arith, low, at),
-                  (is.each k m x (thing_before k m thing) (item_before k x found)).1);
+              each = λ k m x thing found. (
+                let low = lower k m thing in omega (arith, low, at),
+                (is.each k m x (thing_before k m thing) (item_before k x found)).1,
+              );
               first = λ k l m x thing found. is.first k l m x (thing_before k m thing) (item_before k x found);
               once = λ i j x at_i at_j. is.once i j x (stood_before i x at_i) (stood_before j x at_j);
               room = inr (omega (arith, has_room, length-append items front));
@@ -168,13 +185,18 @@ module _ {X : Type 0} where
           by_last : (earlier : List ℕ) (last : ℕ) → is.things ≡ earlier ++ last ∷ [] → n ≤ last →
               PutLast Becomes items limit n added numbers
           by_last earlier last things_are not_less = ⊎_elim
-              (λ none. absurd (omega (arith, is.count, ap length things_are, length-append earlier (last ∷ []),
-                  ap length none)))
+              (λ none. absurd (omega (
+                arith,
+                is.count,
+                ap length things_are,
+                length-append earlier (last ∷ []),
+                ap length none,
+              )))
               (λ more.
               let counts = as_many earlier last things_are more.0 more.1 more.2 in
               let thing = last_thing earlier last things_are in
               let item = ap (λ xs. slice_get xs (length earlier)) more.2
-                  ∙ ap (slice_get (more.0 ++ more.1 ∷ [])) counts ∙ slice_get-push more.0 more.1 in
+              ∙ ap (slice_get (more.0 ++ more.1 ∷ [])) counts ∙ slice_get-push more.0 more.1 in
               let was = is.each (length earlier) last more.1 thing item in
               puts earlier last things_are (omega (arith, not_less, was.0)) more.0 more.1 more.2)
               (last_cases added)
@@ -193,7 +215,7 @@ module _ {X : Type 0} where
     cut_back b (suc d) added is =
         let same : b + suc d ≡ suc (b + d) = omega arith in
         ⊎_elim (λ kept. cut_back b d added kept) (λ put. cut_back b d put.front put.before)
-            (last_step (b + d) added (subst (λ n. AreInOrder Becomes items limit n added numbers) same is))
+        (last_step (b + d) added (subst (λ n. AreInOrder Becomes items limit n added numbers) same is))
 
     -- where none of the items stood twice, none does after
     pub stand_once : ((i j : ℕ) (x : X) → slice_get items i ≡ Some x → slice_get items j ≡ Some x → i ≡ j) →
@@ -211,7 +233,7 @@ module _ {X : Type 0} where
 module _ {X : Type 0} (P Q : ℕ → X → Type 0) (items : List X) (limit : ℕ) (numbers others : List ℕ)
     (once : (i j : ℕ) (x : X) → slice_get items i ≡ Some x → slice_get items j ≡ Some x → i ≡ j)
     (step : (n : ℕ) → ((m : ℕ) (x : X) → m < n → P m x → slice_index numbers m ≡ slice_index others m) → (x : X) →
-        P n x ↔ Q n x) where
+    P n x ↔ Q n x) where
   -- the things before a number have the same numbers
   abbrev Agree : ℕ → Type 0
   Agree n = (m : ℕ) (x : X) → m < n → P m x → slice_index numbers m ≡ slice_index others m
@@ -220,7 +242,7 @@ module _ {X : Type 0} (P Q : ℕ → X → Type 0) (items : List X) (limit : ℕ
   next_agree n agree here m x less becomes = ⊎_elim
       (λ earlier. agree m x earlier becomes)
       (λ not_earlier. let at : m ≡ n = omega (arith, less, not_earlier) in
-          subst (λ k. slice_index numbers k ≡ slice_index others k) (sym at) (here x (subst (λ k. P k x) at becomes)))
+      subst (λ k. slice_index numbers k ≡ slice_index others k) (sym at) (here x (subst (λ k. P k x) at becomes)))
       (cases_lt m n)
 
   module _ (n : ℕ) (xs ys : List X) (is : AreInOrder P items limit (suc n) xs numbers)
@@ -233,7 +255,7 @@ module _ {X : Type 0} (P Q : ℕ → X → Type 0) (items : List X) (limit : ℕ
           let one = is.stand n x (omega arith) becomes in
           let other = second.stand n x (omega arith) ((step n same.1 x).0 becomes) in
           stand_once P items limit numbers once n xs kept (slice_index numbers n) (slice_index others n) x one
-              (ap (λ zs. slice_get (items ++ zs) (slice_index others n)) same.0 ∙ other)),
+          (ap (λ zs. slice_get (items ++ zs) (slice_index others n)) same.0 ∙ other)),
     )
 
     -- it put an item last in both ways
@@ -242,7 +264,7 @@ module _ {X : Type 0} (P Q : ℕ → X → Type 0) (items : List X) (limit : ℕ
     both_put one other same =
         let becomes = (step n same.1 other.item).1 other.becomes in
         let item : one.item ≡ other.item = same_Some one.item other.item
-            (sym (is.stand n one.item (omega arith) one.becomes) ∙ is.stand n other.item (omega arith) becomes) in (
+        (sym (is.stand n one.item (omega arith) one.becomes) ∙ is.stand n other.item (omega arith) becomes) in (
           one.added_is ∙ ap (λ zs. zs ++ one.item ∷ []) same.0 ∙ ap (λ x. other.front ++ x ∷ []) item
               ∙ sym other.added_is,
           next_agree n same.1 (λ x b. one.number_is ∙ ap (λ zs. length (items ++ zs)) same.0 ∙ sym other.number_is),
@@ -263,8 +285,11 @@ module _ {X : Type 0} (P Q : ℕ → X → Type 0) (items : List X) (limit : ℕ
   pub one_in_order : (n : ℕ) (xs ys : List X) → AreInOrder P items limit n xs numbers →
       AreInOrder Q items limit n ys others → (xs ≡ ys) × ((m : ℕ) (x : X) → m < n → P m x →
       slice_index numbers m ≡ slice_index others m)
-  one_in_order zero xs ys is second = (none_added P items limit numbers xs is
-      ∙ sym (none_added Q items limit others ys second), λ m x less. absurd (omega (arith, less)))
+  one_in_order zero xs ys is second = (
+    none_added P items limit numbers xs is
+        ∙ sym (none_added Q items limit others ys second),
+    λ m x less. absurd (omega (arith, less)),
+  )
   one_in_order (suc n) xs ys is second = ⊎_elim
       (λ kept. ⊎_elim
       (λ also. both_kept n xs ys is second kept (one_in_order n xs ys kept also))
@@ -293,7 +318,7 @@ module _ {X : Type 0} (P Q : ℕ → X → Type 0) (items : List X) (limit : ℕ
           (λ kept.
           let same = one_in_order b xs front is kept in
           full.2 (slice_index others b) (ap (λ zs. slice_get (items ++ zs) (slice_index others b)) same.0
-              ∙ next.stand b full.0 (omega arith) ((step b same.1 full.0).0 full.1)))
+          ∙ next.stand b full.0 (omega arith) ((step b same.1 full.0).0 full.1)))
           (λ put.
           let same = one_in_order b xs put.front is put.before in
           omega (arith, put.room, full.3, ap (λ zs. length (items ++ zs)) same.0))

@@ -1,6 +1,6 @@
 -- What stands after a formula was entered.
-use Rattle.std.proofs.Common.{◌≡◌, ℕ, zero, suc, ◌+◌, ◌<◌, ◌≤◌, min, max, List, [], ◌∷◌, ◌++◌, length, slice_get,
-    Some, All, Contains, refl, sym, ap, subst, ◌∙◌, ⊎_elim, append-nil, append_assoc, arith}
+use Rattle.std.proofs.Common.{◌≡◌, ℕ, zero, suc, ◌+◌, ◌<◌, ◌≤◌, min, max, List, [], ◌∷◌, ◌++◌, length, slice_get}
+use Rattle.std.proofs.Common.{Some, All, Contains, refl, sym, ap, subst, ◌∙◌, ⊎_elim, append-nil, append_assoc, arith}
 use Rattle.std.specs.Prelude.{slice_index}
 use Rattle.std.proofs.lemmas.List.{length-append, length-map}
 use Rattle.std.proofs.lemmas.List.Elements.{All-nil, All-cons, All-map, All-weaker, All-contains, All-contains_itself}
@@ -28,8 +28,8 @@ use Rattle.formula_table.proofs.ForallLaws.{IsForallOf-table_forall}
 use Rattle.formula_table.proofs.BecomesLaws.{row_becomes, node_becomes, forall_stands}
 use Rattle.formula_table.specs.InOrder.{AreInOrder}
 use Rattle.formula_table.proofs.InOrderLaws.{PutLast, none_added, last_step}
-use Rattle.formula_table.specs.Entry.{BecomesRow, BecomesNode, ReachesForall, RowsGrow, ForallsGrow, TableGrows,
-    FillsTerms, LacksMemory, LacksNodes, Enters, table_forall, entered_node}
+use Rattle.formula_table.specs.Entry.{BecomesRow, BecomesNode, ReachesForall, RowsGrow, ForallsGrow, TableGrows}
+use Rattle.formula_table.specs.Entry.{FillsTerms, LacksMemory, LacksNodes, Enters, table_forall, entered_node}
 
 -- the node that a reached node becomes fits a table in which its parts and its forall stand
 pub fits_entered : (formula : Formula) (terms foralls numbers : List ℕ) (table : Formulas) (n : ℕ)
@@ -60,7 +60,7 @@ module _ (formula : Formula) (is : IsFormula formula) where
         (All-weaker (Contains becomes.args) (λ arg. slice_index terms arg < length (rows ++ put.front))
         (λ arg c.
         let lower : arg < n = All-contains (λ a. a < n) becomes.args arg
-            (is.lawful.rows_fit n (App becomes.symbol becomes.args) becomes.stands).args c in
+        (is.lawful.rows_fit n (App becomes.symbol becomes.args) becomes.stands).args c in
         let row = row_becomes formula is terms arg (argument becomes.reached becomes.stands c) in
         slice_get_within (rows ++ put.front) (slice_index terms arg) row.0 (put.before.stand arg row.0 lower row.1))
         becomes.args (All-contains_itself becomes.args)))
@@ -71,7 +71,7 @@ module _ (formula : Formula) (is : IsFormula formula) where
         let becomes = put.becomes in
         let few = (is.lawful.rows_fit n (App becomes.symbol becomes.args) becomes.stands).few in
         subst (λ (row : TermRow). length row.args ≤ 255) (sym becomes.row_is)
-            (omega (arith, few, length-map becomes.args (slice_index terms)))
+        (omega (arith, few, length-map becomes.args (slice_index terms)))
 
     -- rows that were entered leave a table
     pub rows_table : IsTable rows → (n : ℕ) (added : List TermRow) →
@@ -84,9 +84,9 @@ module _ (formula : Formula) (is : IsFormula formula) where
         (λ put.
         let before = rows_table table n put.front put.before in
         let all = IsTable-push (rows ++ put.front) put.item (earlier_args n added put) (few_args n added put)
-            put.nowhere before in
+        put.nowhere before in
         subst IsTable (append_assoc rows put.front (put.item ∷ []) ∙ ap (λ more. rows ++ more) (sym put.added_is))
-            all)
+        all)
         (last_step (BecomesRow formula terms) rows limit terms n added enters)
 
   module _ (old : Formulas) (added : List TableForall) (numbers : List ℕ)
@@ -98,14 +98,14 @@ module _ (formula : Formula) (is : IsFormula formula) where
         let fits = is.lawful.foralls_fit index drafted stands in
         let has = grow.enters.each k index drafted thing stands in
         subst (IsForallOf (length old.foralls + k)) (same_Some (table_forall (length old.foralls + k) drafted) forall
-            (sym has.1 ∙ at)) (IsForallOf-table_forall (length old.foralls + k) drafted fits.few_variables
-            fits.triggers_fit)
+        (sym has.1 ∙ at)) (IsForallOf-table_forall (length old.foralls + k) drafted fits.few_variables
+        fits.triggers_fit)
 
     -- foralls that were entered leave a table
     pub foralls_table : IsFormulaTable old → IsFormulaTable (with_foralls added old)
     foralls_table table = IsFormulaTable-foralls old table added (λ k forall at.
         let thing = element_at grow.enters.reached k (let within = slice_get_within added k forall at in
-            omega (arith, within, grow.enters.count)) in
+        omega (arith, within, grow.enters.count)) in
         let reached = (grow.enters.all.exact thing.0).0 (Contains-slice_get grow.enters.reached k thing.0 thing.1) in
         let drafted = element_at formula.foralls thing.0 (omega (arith, reached.0, grow.all)) in
         forall_fits k thing.0 drafted.0 forall thing.1 drafted.1 at)
@@ -116,7 +116,7 @@ module _ (formula : Formula) (is : IsFormula formula) where
     foralls_below index reach =
         let stands = forall_stands formula is index reach in
         let place = place_from_Contains grow.enters.reached index
-            ((grow.enters.all.exact index).1 (omega (arith, stands, grow.all), reach)) in
+        ((grow.enters.all.exact index).1 (omega (arith, stands, grow.all), reach)) in
         let drafted = element_at formula.foralls index stands in
         let has = grow.enters.each place.0 index drafted.0 place.1 drafted.1 in
         let within = slice_get_within grow.enters.reached place.0 index place.1 in
@@ -133,13 +133,13 @@ module _ (formula : Formula) (is : IsFormula formula) where
         let becomes = put.becomes in
         subst (FitsTable (with_nodes put.front)) (sym becomes.node_is)
         (fits_entered formula terms foralls numbers (with_nodes put.front) n becomes.draft_node becomes.stands
-            becomes.reached
+        becomes.reached
         (λ part c.
         let lower : part < n = All-contains (λ p. p < n) (parts_of becomes.draft_node) part
-            (is.lawful.nodes_fit n becomes.draft_node becomes.stands).parts_stand c in
+        (is.lawful.nodes_fit n becomes.draft_node becomes.stands).parts_stand c in
         let node = node_becomes formula is terms foralls numbers part (part_of_it becomes.reached becomes.stands c) in
         slice_get_within (old.nodes ++ put.front) (slice_index numbers part) node.0
-            (put.before.stand part node.0 lower node.1))
+        (put.before.stand part node.0 lower node.1))
         stand)
 
     -- nodes that were entered leave a table
@@ -153,10 +153,10 @@ module _ (formula : Formula) (is : IsFormula formula) where
         (λ put.
         let before = nodes_table n put.front put.before in
         let all = IsFormulaTable-push (with_nodes put.front) before put.item (fits_put n added put) put.nowhere
-            put.room in
+        put.room in
         subst (λ (nodes : List Node). IsFormulaTable (record old { nodes = nodes }))
-            (append_assoc old.nodes put.front (put.item ∷ []) ∙ ap (λ more. old.nodes ++ more) (sym put.added_is))
-            all)
+        (append_assoc old.nodes put.front (put.item ∷ []) ∙ ap (λ more. old.nodes ++ more) (sym put.added_is))
+        all)
         (last_step (BecomesNode formula terms foralls numbers) old.nodes old.limit numbers n added enters)
 
   -- foralls and nodes that were entered leave a table
@@ -177,11 +177,11 @@ module _ (formula : Formula) (is : IsFormula formula) where
       let numbers = grows.nodes_grow.numbers in
       let root = node_becomes formula is terms grows.forall_numbers numbers formula.root itself in
       let stands = grows.nodes_grow.enters.stand formula.root root.0
-          (omega (arith, grows.nodes_grow.all, is.root_stands)) root.1 in
+      (omega (arith, grows.nodes_grow.all, is.root_stands)) root.1 in
       let same = get_or_from_slice_get numbers formula.root number 0 grows.nodes_grow.root in
       let within = slice_get_within (old.nodes ++ grows.nodes) (slice_index numbers formula.root) root.0 stands in
       let nodes : length new.nodes ≡ length (old.nodes ++ grows.nodes) = ap (λ (table : Formulas). length table.nodes)
-          grows.new_is in
+      grows.new_is in
       omega (arith, same, within, nodes)
 
   module _ (grown : List TermRow → Type 0) (rows : List TermRow) (limit : ℕ) (terms : List ℕ)
@@ -192,9 +192,9 @@ module _ (formula : Formula) (is : IsFormula formula) where
     row_below n reach =
         let row = row_becomes formula is terms n reach in
         let within = row_stands formula.rows formula.nodes formula.foralls is.lawful formula.root is.root_stands reach
-            in
+        in
         slice_get_within (rows ++ grow.added) (slice_index terms n) row.0
-            (grow.enters.stand n row.0 (omega (arith, within, grow.all)) row.1)
+        (grow.enters.stand n row.0 (omega (arith, within, grow.all)) row.1)
 
     abbrev AreBelow : List ℕ → Type 0
     AreBelow = All (λ term. term < length (rows ++ grow.added))
@@ -217,7 +217,7 @@ module _ (formula : Formula) (is : IsFormula formula) where
             let least = min (slice_index terms left) (slice_index terms right) in
             let most = max (slice_index terms left) (slice_index terms right) in
             All-cons (λ t. t < length (rows ++ grow.added)) least (most ∷ []) (omega (arith, one, other))
-                (one_term most (omega (arith, one, other)))
+            (one_term most (omega (arith, one, other)))
         by (Atom positive row) at = one_term (slice_index terms row)
             (row_below row (named becomes.reached at (0, omega arith, refl)))
         by (And parts) at = All-nil (λ t. t < length (rows ++ grow.added))
@@ -230,13 +230,13 @@ module _ (formula : Formula) (is : IsFormula formula) where
     terms_below old new number grows stand = subst (λ (table : Formulas). NodesStand (length (rows ++ grow.added))
         table.nodes) (sym grows.new_is) (λ n node at. ⊎_elim
         (λ earlier. All-weaker (λ term. term < length rows) (λ term. term < length (rows ++ grow.added))
-            (λ term less. omega (arith, less, length-append rows grow.added)) (terms_in node) (stand n node earlier))
+        (λ term less. omega (arith, less, length-append rows grow.added)) (terms_in node) (stand n node earlier))
         (λ later.
         let within = slice_get_within grows.nodes later.0 node later.2 in
         let thing = element_at grows.nodes_grow.enters.things later.0
-            (omega (arith, within, grows.nodes_grow.enters.count)) in
+        (omega (arith, within, grows.nodes_grow.enters.count)) in
         node_terms grows.forall_numbers grows.nodes_grow.numbers thing.0 node
-            (grows.nodes_grow.enters.each later.0 thing.0 node thing.1 later.2).1)
+        (grows.nodes_grow.enters.each later.0 thing.0 node thing.1 later.2).1)
         (append_cases old.nodes grows.nodes n node at))
 
 -- what was entered leaves tables, over the terms that stand

@@ -1,7 +1,7 @@
 -- How a formula is entered: its reached rows become terms, its reached foralls get the next numbers, and its reached
 -- nodes become nodes of the table, each in the formula's order.
-use Rattle.std.specs.Prelude.{◌≡◌, ℕ, ◌+◌, ◌<◌, ◌⊎◌, min, max, List, [], ◌∷◌, ◌++◌, length, map, slice_get,
-    slice_index, Some}
+use Rattle.std.specs.Prelude.{◌≡◌, ℕ, ◌+◌, ◌<◌, ◌⊎◌, min, max, List}
+use Rattle.std.specs.Prelude.{[], ◌∷◌, ◌++◌, length, map, slice_get, slice_index, Some}
 use Rattle.graph_terms.specs.declared.term_row.TermRow.{TermRow}
 use Rattle.graph_trigger.specs.declared.trigger.Trigger.{Trigger}
 use Rattle.graph_meaning.specs.Questions.{AreAll}
@@ -97,12 +97,12 @@ pub record RowsGrow (grown : List TermRow → Type 0) (formula : Formula) (rows 
 
 -- the first rows were entered, the terms grew by what they added, and there is no room for the next term
 pub record FillsTerms (grown : List TermRow → Type 0) (formula : Formula) (rows : List TermRow) (limit : ℕ) : Type 0
-    where
-  pub added : List TermRow
-  pub terms : List ℕ
-  pub grew : grown added
-  pub enters : EntersRows formula rows limit added terms
-  pub full : IsFullFor (BecomesRow formula terms (length terms)) (rows ++ added) limit
+  where
+    pub added : List TermRow
+    pub terms : List ℕ
+    pub grew : grown added
+    pub enters : EntersRows formula rows limit added terms
+    pub full : IsFullFor (BecomesRow formula terms (length terms)) (rows ++ added) limit
 
 -- the first rows were entered, the terms grew by what they added, and perhaps memory was refused for the next term
 pub record LacksMemory (grown refused : List TermRow →

@@ -1,6 +1,6 @@
 -- What the steps of an entry keep and say.
-use Rattle.std.specs.Prelude.{◌≡◌, ℕ, ◌<◌, ◌⊎◌, Bool, true, false, List, [], ◌∷◌, ◌++◌, length, slice_get,
-    slice_index, Some}
+use Rattle.std.specs.Prelude.{◌≡◌, ℕ, ◌<◌, ◌⊎◌, Bool, true, false, List}
+use Rattle.std.specs.Prelude.{[], ◌∷◌, ◌++◌, length, slice_get, slice_index, Some}
 use Rattle.graph_terms.specs.declared.term_row.TermRow.{TermRow}
 use Rattle.graph_terms.specs.Terms.{IsAbsent}
 use Rattle.formula_draft.specs.declared.draft_forall.DraftForall.{DraftForall}
@@ -12,8 +12,8 @@ use Rattle.formula_table.specs.declared.enter_fault.EnterFault.{EnterFault}
 use Rattle.formula_table.specs.declared.enter_fault.EnterFault.TheVariants.{TermsFull, NodesFull, Memory}
 use Rattle.formula_table.specs.Formulas.{Formulas, with_foralls}
 use Rattle.formula_table.specs.InOrder.{IsFullFor, PutsNext}
-use Rattle.formula_table.specs.Entry.{BecomesRow, BecomesNode, ReachesForall, FillsTerms, LacksMemory, FillsNodes,
-    ForallsGrow, NodesGrow, table_forall}
+use Rattle.formula_table.specs.Entry.{BecomesRow, BecomesNode, ReachesForall, FillsTerms, LacksMemory}
+use Rattle.formula_table.specs.Entry.{FillsNodes, ForallsGrow, NodesGrow, table_forall}
 
 -- each number of a reached row is that of a term
 abbrev pub NumbersStand : Formula → ℕ → List ℕ → Type 0

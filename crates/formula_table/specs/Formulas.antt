@@ -1,6 +1,6 @@
 -- The table of formulas.
-use Rattle.std.specs.Prelude.{◌≡◌, ℕ, ◌<◌, ◌≤◌, Bool, List, [], ◌++◌, length, slice_get, take, Option, Some,
-    option_map, All}
+use Rattle.std.specs.Prelude.{◌≡◌, ℕ, ◌<◌, ◌≤◌, Bool, List, [], ◌++◌}
+use Rattle.std.specs.Prelude.{length, slice_get, take, Option, Some, option_map, All}
 use Rattle.graph_trigger.specs.declared.trigger.Trigger.{Trigger}
 use Rattle.graph_trigger.specs.Trigger.{IsValid}
 use Rattle.formula_table.specs.declared.node.Node.{Node}
@@ -24,8 +24,11 @@ no_formulas limit = record { nodes = []; foralls = []; limit = limit }
 
 -- the first nodes and foralls
 abbrev pub first_formulas : ℕ → ℕ → Formulas → Formulas
-first_formulas nodes foralls table = record { nodes = take nodes table.nodes; foralls = take foralls table.foralls;
-    limit = table.limit }
+first_formulas nodes foralls table = record {
+  nodes = take nodes table.nodes;
+  foralls = take foralls table.foralls;
+  limit = table.limit;
+}
 
 -- the trigger at a place of a forall with so many variables
 pub record IsTriggerOf (forall place variables : ℕ) (trigger : Trigger) : Type 0 where

@@ -1,6 +1,6 @@
 -- How the labels, the lists of members and uses, and the table of signatures stand to each other.
-use Rattle.std.specs.Prelude.{◌≡◌, ◌<◌, ◌⊎◌, ◌+◌, ◌++◌, ℕ, List, [], ◌∷◌, length, Some, nat_eq, slice_get,
-    slice_index, slice_set, Contains, if◌then◌else◌}
+use Rattle.std.specs.Prelude.{◌≡◌, ◌<◌, ◌⊎◌, ◌+◌, ◌++◌, ℕ, List, [], ◌∷◌}
+use Rattle.std.specs.Prelude.{length, Some, nat_eq, slice_get, slice_index, slice_set, Contains, if◌then◌else◌}
 use Rattle.graph_terms.specs.declared.term_row.TermRow.{TermRow}
 use Rattle.graph_classes.specs.Closure.{IsSound, IsComplete}
 use Rattle.graph_classes.specs.State.{State, list_at}
@@ -66,8 +66,10 @@ written labels (t ∷ ts) label = written (slice_set labels t label) ts label
 
 -- the terms went from one label to another
 abbrev pub moved : State → List ℕ → ℕ → State
-moved s terms into = record s { labels = written s.labels terms into;
-    members = slice_set s.members into (list_at s.members into ++ terms) }
+moved s terms into = record s {
+  labels = written s.labels terms into;
+  members = slice_set s.members into (list_at s.members into ++ terms);
+}
 
 -- how many labels are their own, from place k on
 abbrev pub own_from : ℕ → List ℕ → ℕ

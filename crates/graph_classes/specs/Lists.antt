@@ -1,6 +1,6 @@
 -- The lists of terms, each under its place.
-use Rattle.std.specs.Prelude.{◌≡◌, ℕ, List, Option, Bool, false, nat_eq, ◌&&◌, if◌then◌else◌, Contains, MatchOption,
-    ◌≤◌, length, insert}
+use Rattle.std.specs.Prelude.{◌≡◌, ℕ, List, Option, Bool, false, nat_eq}
+use Rattle.std.specs.Prelude.{◌&&◌, if◌then◌else◌, Contains, MatchOption, ◌≤◌, length, insert}
 use Rattle.graph_classes.specs.declared.place.Place.{Place}
 use Rattle.graph_classes.specs.declared.place.Place.TheVariants.{Symbol, Member, Parent}
 

@@ -1,13 +1,13 @@
 -- What the parts of a graph hold, and what undoes a change of it.
-use Rattle.std.specs.Prelude.{◌≡◌, ◌-◌, ℕ, List, [], ◌∷◌, ◌++◌, length, take, slice_index_or, slice_set, remove,
-    nat_lt, if◌then◌else◌}
+use Rattle.std.specs.Prelude.{◌≡◌, ◌-◌, ℕ, List, [], ◌∷◌, ◌++◌}
+use Rattle.std.specs.Prelude.{length, take, slice_index_or, slice_set, remove, nat_lt, if◌then◌else◌}
 use Rattle.graph_terms.specs.declared.term_row.TermRow.{TermRow}
 use Rattle.graph_meaning.specs.declared.done.Done.{Done}
 use Rattle.graph_classes.specs.declared.place.Place.{Place}
 use Rattle.graph_classes.specs.declared.parts.Parts.{Parts}
 use Rattle.graph_classes.specs.declared.change.Change.{Change}
-use Rattle.graph_classes.specs.declared.change.Change.TheVariants.{Added, Labelled, Joined, Used, Signed, Led, Listed,
-    Logged}
+use Rattle.graph_classes.specs.declared.change.Change.TheVariants.{Added, Labelled, Joined, Used}
+use Rattle.graph_classes.specs.declared.change.Change.TheVariants.{Signed, Led, Listed, Logged}
 use Rattle.graph_classes.specs.Lists.{with_list}
 use Rattle.graph_classes.specs.Shown.{lists_in}
 
@@ -26,9 +26,17 @@ pub record State : Type 0 where
   pub log : List Done
 
 abbrev pub state : Parts → State
-state parts = record { rows = parts.rows.rows; limit = parts.rows.limit; labels = parts.labels.items;
-    members = parts.members.items; uses = parts.uses.items; table = parts.table; leaders = parts.leaders.items;
-    lists = lists_in parts.lists; log = parts.log }
+state parts = record {
+  rows = parts.rows.rows;
+  limit = parts.rows.limit;
+  labels = parts.labels.items;
+  members = parts.members.items;
+  uses = parts.uses.items;
+  table = parts.table;
+  leaders = parts.leaders.items;
+  lists = lists_in parts.lists;
+  log = parts.log;
+}
 
 -- a list without its last item
 abbrev pub shorter : {A : Type 0} → List A → List A
@@ -44,8 +52,13 @@ list_at lists label = slice_index_or lists label []
 
 -- the state before a change, from the state after it
 abbrev pub before_change : State → Change → State
-before_change s Added = record s { rows = fewer_rows s.rows; labels = shorter s.labels; members = shorter s.members;
-    uses = shorter s.uses; leaders = shorter s.leaders }
+before_change s Added = record s {
+  rows = fewer_rows s.rows;
+  labels = shorter s.labels;
+  members = shorter s.members;
+  uses = shorter s.uses;
+  leaders = shorter s.leaders;
+}
 before_change s (Labelled term old) = record s { labels = slice_set s.labels term old }
 before_change s (Joined label) = record s { members = slice_set s.members label (shorter (list_at s.members label)) }
 before_change s (Used label) = record s { uses = slice_set s.uses label (shorter (list_at s.uses label)) }
@@ -63,5 +76,10 @@ undo_gives_before old change new h = h
 
 -- the state with one more row, which is alone in its class and is used nowhere
 abbrev pub with_row : State → TermRow → ℕ → State
-with_row s row term = record s { rows = s.rows ++ row ∷ []; labels = s.labels ++ term ∷ [];
-    members = s.members ++ (term ∷ []) ∷ []; uses = s.uses ++ [] ∷ []; leaders = s.leaders ++ term ∷ [] }
+with_row s row term = record s {
+  rows = s.rows ++ row ∷ [];
+  labels = s.labels ++ term ∷ [];
+  members = s.members ++ (term ∷ []) ∷ [];
+  uses = s.uses ++ [] ∷ [];
+  leaders = s.leaders ++ term ∷ [];
+}

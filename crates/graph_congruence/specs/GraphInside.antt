@@ -12,8 +12,11 @@ use Rattle.graph_classes.specs.Standing.{IsGood}
 
 -- the graph that the fields hold
 abbrev pub shown_graph : Inside → GraphState
-shown_graph graph = record { standing = (now graph.classes).log; done = graph.done;
-    limit = (now graph.classes).limit }
+shown_graph graph = record {
+  standing = (now graph.classes).log;
+  done = graph.done;
+  limit = (now graph.classes).limit;
+}
 
 -- the state was in order, and had these operations
 pub record HasStood (s : State) (log : List Done) (limit : ℕ) : Type 0 where

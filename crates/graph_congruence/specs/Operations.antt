@@ -23,5 +23,8 @@ CanTakeBack state = (last : Done) × (slice_get state.standing (length state.sta
 
 -- the graph before the operation that was done last
 abbrev pub taken_back : GraphState → GraphState
-taken_back state = record { standing = take (length state.standing - 1) state.standing; done = state.done - 1;
-    limit = state.limit }
+taken_back state = record {
+  standing = take (length state.standing - 1) state.standing;
+  done = state.done - 1;
+  limit = state.limit;
+}

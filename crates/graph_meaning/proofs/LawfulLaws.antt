@@ -1,18 +1,19 @@
 -- What one operation more adds to a standing list, and that an allowed one keeps it lawful.
-use Rattle.std.proofs.Common.{◌≡◌, ℕ, ◌+◌, ◌<◌, ◌≤◌, List, [], ◌∷◌, ◌++◌, length, take, All, refl, sym, ap, subst,
-    append-nil, ◌∙◌, ⊎_elim, arith}
+use Rattle.std.proofs.Common.{◌≡◌, ℕ, ◌+◌, ◌<◌, ◌≤◌, List, [], ◌∷◌, ◌++◌, length}
+use Rattle.std.proofs.Common.{take, All, refl, sym, ap, subst, append-nil, ◌∙◌, ⊎_elim, arith}
 use Rattle.std.specs.List.{filter_map}
 use Rattle.std.proofs.lemmas.Bool.{cases_lt}
 use Rattle.std.proofs.lemmas.List.{length-append, length-take, take-append-le, take_all, take-take}
-use Rattle.std.proofs.lemmas.List.Elements.{filter_map-append, Contains-append_cases, Contains-push_cases, All-append,
-    All-nil, All-push}
+use Rattle.std.proofs.lemmas.List.Elements.{filter_map-append, Contains-append_cases, Contains-push_cases}
+use Rattle.std.proofs.lemmas.List.Elements.{All-append, All-nil, All-push}
 use Rattle.graph_meaning.specs.declared.done.Done.{Done}
 use Rattle.graph_meaning.specs.declared.op.Op.{Op}
 use Rattle.graph_meaning.specs.declared.op.Op.TheVariants.{Add, Merge, Differ, Live, Push, Pop}
 use Rattle.graph_terms.specs.Terms.{term_row, first_rows, IsTable}
 use Rattle.graph_trigger.specs.Trigger.{IsValid}
-use Rattle.graph_meaning.specs.Standing.{added_row, merged_ends, different_ends, live_trigger, terms_of, merges_of,
-    differs_of, triggers_of, rows_added, merges_added, differs_added, triggers_added, standing_after}
+use Rattle.graph_meaning.specs.Standing.{added_row, merged_ends, different_ends, live_trigger, terms_of}
+use Rattle.graph_meaning.specs.Standing.{merges_of, differs_of, triggers_of, rows_added, merges_added}
+use Rattle.graph_meaning.specs.Standing.{differs_added, triggers_added, standing_after}
 pub use Rattle.graph_meaning.specs.Standing.{then_op}
 use Rattle.graph_meaning.specs.Lawful.{Allows, EndsBelow, KeepsRules, IsLawful}
 use Rattle.graph_terms.proofs.TableLaws.{IsTable-first, IsTable-push}
@@ -84,8 +85,8 @@ EndsBelow-append : (pairs more : List (ℕ × ℕ)) (bound later : ℕ) → boun
     EndsBelow more bound → EndsBelow (pairs ++ more) later
 EndsBelow-append pairs more bound later le ends new_ends s t c =
     ⊎_elim (λ old. let h = ends s t old in (omega (arith, h.0), omega (arith, h.1)))
-        (λ new. let h = new_ends s t new in (omega (arith, h.0), omega (arith, h.1)))
-        (Contains-append_cases pairs more (s, t) c)
+    (λ new. let h = new_ends s t new in (omega (arith, h.0), omega (arith, h.1)))
+    (Contains-append_cases pairs more (s, t) c)
 
 -- what an allowed operation adds
 module _ (standing : List Done) where
@@ -128,8 +129,11 @@ module _ (standing : List Done) where
       KeepsRules (then_op standing serial op)
   KeepsRules-push serial op keeps allowed =
       let terms = terms_of-push standing serial op in
-      let longer : length (terms_of standing) ≤ length (terms_of (then_op standing serial op)) = omega (arith,
-          ap length terms, length-append (terms_of standing) (rows_added op)) in
+      let longer : length (terms_of standing) ≤ length (terms_of (then_op standing serial op)) = omega (
+        arith,
+        ap length terms,
+        length-append (terms_of standing) (rows_added op),
+      ) in
       record {
         table = subst IsTable (sym terms) (stays_table op allowed keeps.table);
         ends = subst (λ pairs. EndsBelow pairs (length (terms_of (then_op standing serial op))))
@@ -148,8 +152,12 @@ pub IsLawful-first : IsLawful []
 IsLawful-first = record { whole = keeps; fronts = λ k. subst KeepsRules (sym (take_all k [] (omega arith))) keeps }
   where
     keeps : KeepsRules []
-    keeps = record { table = IsTable-first; ends = EndsBelow-none 2; different_ends = EndsBelow-none 2;
-        triggers = All-nil IsValid }
+    keeps = record {
+      table = IsTable-first;
+      ends = EndsBelow-none 2;
+      different_ends = EndsBelow-none 2;
+      triggers = All-nil IsValid;
+    }
 
 -- so is a front of a lawful list
 pub IsLawful-take : (n : ℕ) (standing : List Done) → IsLawful standing → IsLawful (take n standing)
@@ -158,7 +166,7 @@ IsLawful-take n standing lawful = record {
   fronts = λ k. ⊎_elim
       (λ below. subst KeepsRules (sym (take-take k n standing (omega arith))) (lawful.fronts k))
       (λ past. subst KeepsRules (sym (take_all k (take n standing) (let len = length-take n standing in omega arith)))
-          (lawful.fronts n))
+      (lawful.fronts n))
       (cases_lt k n);
 }
 
@@ -169,10 +177,10 @@ IsLawful-push standing serial op lawful allowed = record {
   whole = KeepsRules-push standing serial op lawful.whole allowed;
   fronts = λ k. ⊎_elim
       (λ inside. subst KeepsRules (sym (take-append-le k standing (record { serial = serial; op = op } ∷ [])
-          (omega arith))) (lawful.fronts k))
+      (omega arith))) (lawful.fronts k))
       (λ past. subst KeepsRules (sym (take_all k (then_op standing serial op)
-          (let longer = length-append standing (record { serial = serial; op = op } ∷ []) in omega arith)))
-          (KeepsRules-push standing serial op lawful.whole allowed))
+      (let longer = length-append standing (record { serial = serial; op = op } ∷ []) in omega arith)))
+      (KeepsRules-push standing serial op lawful.whole allowed))
       (cases_lt k (length standing + 1));
 }
 

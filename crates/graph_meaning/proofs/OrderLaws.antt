@@ -1,13 +1,13 @@
 -- Lists in order.
-use Rattle.std.proofs.Common.{◌≡◌, ◌⊎◌, ℕ, suc, List, [], ◌∷◌, AllPairs, Contains, refl, sym, ◌∙◌, ap₂, ap, subst,
-    inl, inr, ⊎_elim, arith}
+use Rattle.std.proofs.Common.{◌≡◌, ◌⊎◌, ℕ, suc, List, [], ◌∷◌, AllPairs, Contains, refl}
+use Rattle.std.proofs.Common.{sym, ◌∙◌, ap₂, ap, subst, inl, inr, ⊎_elim, arith}
 use Rattle.std.proofs.lemmas.Cmp.{nat_list_cmp_total}
 use Rattle.std.specs.Ordering.{nat_cmp, ordering_reverse}
 use Rattle.std.specs.declared.cmp.Ordering.{Ordering}
 use Rattle.std.specs.Cmp.Lexicographic.{slice_cmp}
 use Rattle.std.specs.declared.cmp.Ordering.TheVariants.{Less, Greater}
-use Rattle.std.proofs.lemmas.List.Elements.{Contains-get_or, Contains-append_cases, Contains-append_right,
-    Contains-push_cases}
+use Rattle.std.proofs.lemmas.List.Elements.{Contains-get_or, Contains-append_cases}
+use Rattle.std.proofs.lemmas.List.Elements.{Contains-append_right, Contains-push_cases}
 
 module _ {X : Type 0} where
   -- an element of a list is its first or one of the rest
@@ -38,16 +38,16 @@ module _ {X : Type 0} where
         let same : x ≡ y =
         ⊎_elim sym
         (λ in_ys. ⊎_elim (λ e. e) (λ in_xs. absurd (strict x y (head_before x y xs up in_xs)
-            (head_before y x ys up' in_ys))) (head_or_rest x y xs (back y (is_head y ys))))
+        (head_before y x ys up' in_ys))) (head_or_rest x y xs (back y (is_head y ys))))
         (head_or_rest y x ys (forth x (is_head x xs))) in
         ap₂ (λ z zs. z ∷ zs) same
         (same_in_order strict xs ys (rest_in_order x xs up) (rest_in_order y ys up')
         (λ z c. ⊎_elim (λ e. let less = head_before x z xs up c in
-            let back_to = subst (R x) (sym (same_then same e)) less in
-            absurd (strict x x back_to back_to)) (λ rest. rest) (head_or_rest y z ys (forth z (in_rest x z xs c))))
+        let back_to = subst (R x) (sym (same_then same e)) less in
+        absurd (strict x x back_to back_to)) (λ rest. rest) (head_or_rest y z ys (forth z (in_rest x z xs c))))
         (λ z c. ⊎_elim (λ e. let less = head_before y z ys up' c in
-            let back_to = subst (R y) (sym (same_then (sym same) e)) less in
-            absurd (strict y y back_to back_to)) (λ rest. rest) (head_or_rest x z xs (back z (in_rest y z ys c)))))
+        let back_to = subst (R y) (sym (same_then (sym same) e)) less in
+        absurd (strict y y back_to back_to)) (λ rest. rest) (head_or_rest x z xs (back z (in_rest y z ys c)))))
       where
         same_then : {a b z : X} → a ≡ b → b ≡ z → a ≡ z
         same_then e f = e ∙ f

@@ -18,8 +18,11 @@ first_state limit = record { standing = []; done = 0; limit = limit }
 
 -- the graph after one operation more
 abbrev pub state_after : GraphState → Op → GraphState
-state_after state op = record { standing = standing_after state.standing state.done op; done = state.done + 1;
-    limit = state.limit }
+state_after state op = record {
+  standing = standing_after state.standing state.done op;
+  done = state.done + 1;
+  limit = state.limit;
+}
 
 -- the graph after further operations, one after another
 abbrev pub replay : GraphState → List Op → GraphState

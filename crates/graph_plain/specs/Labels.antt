@@ -1,6 +1,6 @@
 -- Labels on terms, one to each class.
-use Rattle.std.specs.Prelude.{◌≡◌, ◌≢◌, ℕ, ◌<◌, ◌≤◌, List, [], ◌∷◌, length, map, slice_index, Contains, ◌==◌,
-    if◌then◌else◌, min, max}
+use Rattle.std.specs.Prelude.{◌≡◌, ◌≢◌, ℕ, ◌<◌, ◌≤◌, List, [], ◌∷◌}
+use Rattle.std.specs.Prelude.{length, map, slice_index, Contains, ◌==◌, if◌then◌else◌, min, max}
 use Rattle.graph_terms.specs.declared.term_row.TermRow.{TermRow}
 use Rattle.graph_terms.specs.Terms.{term_row, HasRow}
 use Rattle.graph_meaning.specs.declared.op.Op.{Op}

@@ -1,6 +1,6 @@
 -- What stays a table.
-use Rattle.std.proofs.Common.{◌≡◌, ℕ, zero, suc, ◌<◌, ◌≤◌, List, [], ◌∷◌, ◌++◌, length, take, Some, All, refl, sym,
-    ap, subst, ◌∙◌, ⊎_elim, arith}
+use Rattle.std.proofs.Common.{◌≡◌, ℕ, zero, suc, ◌<◌, ◌≤◌, List, [], ◌∷◌, ◌++◌, length}
+use Rattle.std.proofs.Common.{take, Some, All, refl, sym, ap, subst, ◌∙◌, ⊎_elim, arith}
 use Rattle.std.proofs.lemmas.Option.{none-some, same_Some}
 use Rattle.std.proofs.lemmas.List.Elements.{All-nil}
 use Rattle.graph_terms.specs.declared.term_row.TermRow.{TermRow}
@@ -53,8 +53,8 @@ IsTable-push rows row earlier few absent table = record {
       (push_cases rows row t r has);
   once = λ s t r has_s has_t.
       ⊎_elim (λ old. ⊎_elim (table.once s t r old) (λ p. absurd (absent s (old ∙ ap Some p.1)))
-          (push_cases rows row t r has_t))
+      (push_cases rows row t r has_t))
       (λ new. ⊎_elim (λ old. absurd (absent t (old ∙ ap Some new.1))) (λ p. new.0 ∙ sym p.0)
-          (push_cases rows row t r has_t))
+      (push_cases rows row t r has_t))
       (push_cases rows row s r has_s);
 }

@@ -1,6 +1,7 @@
 -- Commands: what each one answers, and the state after it.
-use Rattle.std.specs.Prelude.{ℕ, ◌+◌, ◌-◌, Option, None, option_map, slice_get, Bool, true, false, cond, not, ◌&&◌,
-    ◌||◌, nat_le, ◌==◌, if◌then◌else◌, List, [], ◌∷◌, ◌++◌, length, Result, Ok, Err, bytes_eq, codes}
+use Rattle.std.specs.Prelude.{ℕ, ◌+◌, ◌-◌, Option, None, option_map, slice_get, Bool, true}
+use Rattle.std.specs.Prelude.{false, cond, not, ◌&&◌, ◌||◌, nat_le, ◌==◌, if◌then◌else◌, List}
+use Rattle.std.specs.Prelude.{[], ◌∷◌, ◌++◌, length, Result, Ok, Err, bytes_eq, codes}
 use Rattle.std.specs.List.{list_any}
 use Rattle.smt_text.specs.Word.{Word}
 use Rattle.smt_text.specs.Trees.{tree_of}
@@ -13,15 +14,17 @@ use Rattle.smt_names.specs.declared.refusal.Refusal.TheVariants as refusal
 use Rattle.smt_names.specs.declared.signature.Signature.{Signature}
 use Rattle.smt_names.specs.Value.{sort_of, self}
 use Rattle.smt_names.specs.Making.{Making, made, ◌>>=◌, ◌>>◌, want, bad_form, not_in_profile}
-use Rattle.smt_names.specs.Names.{State, Scope, Declared, with_sort, with_function, is_symbol, is_keyword, is_numeral,
-    is_wide, number_of, new_function_name, new_sort_name, at_start, cleared, pushed, popped}
-use Rattle.smt_terms.specs.Meant.{Meant, Listed, End, Token, Group, from, first_place, no_more, at_most, at_least,
-    exactly, token_first, list_first, sort_first, other_sort, bindings_after, no_binding}
+use Rattle.smt_names.specs.Names.{State, Scope, Declared, with_sort, with_function, is_symbol}
+use Rattle.smt_names.specs.Names.{is_keyword, is_numeral, is_wide, number_of, new_function_name, new_sort_name}
+use Rattle.smt_names.specs.Names.{at_start, cleared, pushed, popped}
+use Rattle.smt_terms.specs.Meant.{Meant, Listed, End, Token, Group, from}
+use Rattle.smt_terms.specs.Meant.{first_place, no_more, at_most, at_least, exactly, token_first}
+use Rattle.smt_terms.specs.Meant.{list_first, sort_first, other_sort, bindings_after, no_binding}
 use Rattle.smt_terms.specs.Terms.{value, meant, variables_from}
 use Rattle.smt_terms.specs.Scopes.{outside, inside_definition, sorts_of}
 use Rattle.smt_commands.specs.declared.command.Command.{Command}
-use Rattle.smt_commands.specs.declared.command.Command.TheVariants.{Silent, Unsupported, Assert, Push, Pop, CheckSat,
-    GetInfo, Reset, ResetAssertions, Exit}
+use Rattle.smt_commands.specs.declared.command.Command.TheVariants.{Silent, Unsupported, Assert, Push, Pop}
+use Rattle.smt_commands.specs.declared.command.Command.TheVariants.{CheckSat, GetInfo, Reset, ResetAssertions, Exit}
 use Rattle.smt_commands.specs.declared.named.Named.{Named}
 use Rattle.smt_commands.specs.declared.named.Named.TheVariants as named
 use Rattle.smt_commands.specs.declared.info.Info.{Info}
@@ -235,8 +238,14 @@ declare_const state head parts = do
 abbrev pub defined : State → List ℕ → List Bound → ℕ → Value → Making Answer
 defined state name parameters sort v draft = silent (record state {
   definitions = state.definitions
-      ++ record { name = name; parameters = sorts_of parameters; sort = sort; rows = draft.rows; nodes = draft.nodes;
-          value = v } ∷ [];
+      ++ record {
+        name = name;
+        parameters = sorts_of parameters;
+        sort = sort;
+        rows = draft.rows;
+        nodes = draft.nodes;
+        value = v;
+      } ∷ [];
 }) draft
 
 -- at most 255 bindings

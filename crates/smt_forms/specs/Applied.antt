@@ -1,6 +1,6 @@
 -- A name with its arguments: the checks in their order, and then what it puts.
-use Rattle.std.specs.Prelude.{ℕ, ◌+◌, Bool, true, false, not, ◌&&◌, ◌||◌, ◌==◌, nat_le, nat_lt, List, [], ◌∷◌, map,
-    length, get_or, replicate}
+use Rattle.std.specs.Prelude.{ℕ, ◌+◌, Bool, true, false, not, ◌&&◌, ◌||◌, ◌==◌}
+use Rattle.std.specs.Prelude.{nat_le, nat_lt, List, [], ◌∷◌, map, length, get_or, replicate}
 use Rattle.smt_text.specs.declared.token.Place.{Place}
 use Rattle.smt_names.specs.declared.value.Value.{Value}
 use Rattle.smt_names.specs.declared.arg.Arg.{Arg}

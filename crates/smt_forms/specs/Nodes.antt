@@ -1,6 +1,6 @@
 -- What each form of a formula puts into a formula, in this order.
-use Rattle.std.specs.Prelude.{◌≡◌, ℕ, ◌==◌, if◌then◌else◌, Bool, true, false, cond, ◌&&◌, List, [], ◌∷◌, ◌++◌, map,
-    Option, Some, None, option_map}
+use Rattle.std.specs.Prelude.{◌≡◌, ℕ, ◌==◌, if◌then◌else◌, Bool, true, false, cond, ◌&&◌}
+use Rattle.std.specs.Prelude.{List, [], ◌∷◌, ◌++◌, map, Option, Some, None, option_map}
 use Rattle.smt_text.specs.declared.token.Place.{Place}
 use Rattle.formula_draft.specs.declared.draft_row.DraftRow.TheVariants.{App}
 use Rattle.formula_draft.specs.declared.draft_node.DraftNode.{DraftNode}

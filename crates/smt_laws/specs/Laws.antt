@@ -28,10 +28,16 @@ MakesDefinitions = (state : State) (missing : Place) (bindings : Meant) (before 
     → AreDeclared state.functions state.definitions
     → variables_from state 0 bindings before ≡ Ok (parameters, after)
     → value missing (inside_definition state parameters) (meant trees) (empty_draft most_rows most_nodes)
-        ≡ Ok (v, later)
+    ≡ Ok (v, later)
     → sorts ≡ sorts_of parameters
-    → IsDefinition state.functions (record { name = name; parameters = sorts; sort = sort; rows = later.rows;
-        nodes = later.nodes; value = v })
+    → IsDefinition state.functions (record {
+      name = name;
+      parameters = sorts;
+      sort = sort;
+      rows = later.rows;
+      nodes = later.nodes;
+      value = v;
+    })
 
 -- A definition stays right when functions are declared.
 abbrev pub KeepsDefinitions : Type 0

@@ -35,7 +35,7 @@ mutual
     equation : {n left right sort : ℕ} {positive : Bool} → slice_get nodes n ≡ Some (Equal positive left right) →
         1 ≤ sort
         → HasSort functions variables rows left sort → HasSort functions variables rows right sort →
-            IsPlain functions variables rows nodes n
+        IsPlain functions variables rows nodes n
     atom : {n row : ℕ} {positive : Bool} → slice_get nodes n ≡ Some (Atom positive row) →
         HasSort functions variables rows row 0 → IsPlain functions variables rows nodes n
     each : {n : ℕ} {parts : List ℕ} → slice_get nodes n ≡ Some (And parts) →

@@ -33,8 +33,13 @@ pub record IsFunction (f : Declared) : Type 0 where
 
 -- the rows and nodes of a definition
 abbrev pub inside : Defined → Draft
-inside d = record { rows = d.rows; nodes = d.nodes; foralls = []; most_rows = length d.rows;
-    most_nodes = length d.nodes }
+inside d = record {
+  rows = d.rows;
+  nodes = d.nodes;
+  foralls = [];
+  most_rows = length d.rows;
+  most_nodes = length d.nodes;
+}
 
 -- a definition has no parameter that is a formula, and its rows, nodes and value are right for its parameters
 pub record IsDefinition (functions : List Declared) (d : Defined) : Type 0 where

@@ -1,6 +1,6 @@
 -- How bound names are found: each name has a number, and each number the place of its last binding.
-use Rattle.std.specs.Prelude.{◌≡◌, ℕ, ◌==◌, cond, List, [], ◌∷◌, map, reverse, length, get_or, slice_get, Option,
-    Some, None, option_map}
+use Rattle.std.specs.Prelude.{◌≡◌, ℕ, ◌==◌, cond, List, [], ◌∷◌, map}
+use Rattle.std.specs.Prelude.{reverse, length, get_or, slice_get, Option, Some, None, option_map}
 use Rattle.smt_names.specs.declared.bound.Bound.{Bound}
 use Rattle.smt_names.specs.declared.linked.Linked.{Linked}
 use Rattle.smt_names.specs.declared.bound_names.BoundNames.TheInside.{Inside}
@@ -20,7 +20,7 @@ abbrev pub AreLinked : List (List ℕ) → List Linked → Type 0
 AreLinked names [] = Unit {0}
 AreLinked names (item ∷ earlier) =
     (place_in names item.bound.name ≡ Some item.number) × (item.earlier ≡ last_place item.number earlier) ×
-        AreLinked names earlier
+    AreLinked names earlier
 
 -- the last place of each number is at hand
 pub record IsIndexed (s : Inside) : Type 0 where

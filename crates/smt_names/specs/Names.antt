@@ -1,7 +1,7 @@
 -- Names, sorts, and what a name stands for.
-use Rattle.std.specs.Prelude.{◌≡◌, ℕ, ◌+◌, ◌-◌, ◌*◌, ◌^◌, Bool, true, false, cond, not, ◌&&◌, ◌||◌, nat_le, ◌==◌,
-    List, [], ◌∷◌, ◌++◌, length, take, get_or, slice_get, replicate, Option, Some, None, is_some, option_map,
-    bytes_eq, codes}
+use Rattle.std.specs.Prelude.{◌≡◌, ℕ, ◌+◌, ◌-◌, ◌*◌, ◌^◌, Bool, true, false, cond, not}
+use Rattle.std.specs.Prelude.{◌&&◌, ◌||◌, nat_le, ◌==◌, List, [], ◌∷◌, ◌++◌, length, take, get_or}
+use Rattle.std.specs.Prelude.{slice_get, replicate, Option, Some, None, is_some, option_map, bytes_eq, codes}
 use Rattle.std.specs.List.{position_from, list_any}
 use Rattle.smt_text.specs.Word.{Word}
 use Rattle.smt_text.specs.declared.token.Kind.{Kind}
@@ -21,8 +21,8 @@ use Rattle.smt_names.specs.declared.level.Level.{Level}
 use Rattle.smt_names.specs.declared.head.Head.{Head}
 use Rattle.smt_names.specs.declared.head.Head.TheVariants as head
 use Rattle.smt_names.specs.declared.refusal.Refusal.TheVariants.{BadForm, NotInProfile, UnknownName, AlreadyDeclared}
-use Rattle.smt_names.specs.Making.{Making, made, ◌>>=◌, ◌>>◌, want, want_named, refuse_named, bad_form,
-    not_in_profile}
+use Rattle.smt_names.specs.Making.{Making, made, ◌>>=◌, ◌>>◌, want}
+use Rattle.smt_names.specs.Making.{want_named, refuse_named, bad_form, not_in_profile}
 
 -- a declared function: its name, the sorts of its arguments, and the sort of its value
 pub record Declared : Type 0 where
@@ -274,8 +274,14 @@ with_function name signature state = record state { functions = state.functions 
 
 -- a definition under its name
 abbrev pub defined_as : List ℕ → definition.Definition → Defined
-defined_as name d = record { name = name; parameters = d.parameters; sort = d.sort; rows = d.draft.rows;
-    nodes = d.draft.nodes; value = d.value }
+defined_as name d = record {
+  name = name;
+  parameters = d.parameters;
+  sort = d.sort;
+  rows = d.draft.rows;
+  nodes = d.draft.nodes;
+  value = d.value;
+}
 
 -- the definition that stands there under some name, or none
 abbrev pub DefinedAt : Option Defined → Option definition.Definition → Type 0
@@ -288,8 +294,14 @@ with_definition name d state = record state { definitions = state.definitions ++
 
 -- nothing declared
 abbrev pub at_start : Limits → State
-at_start limits = record { limits = limits; prints_success = false; sorts = []; functions = []; definitions = [];
-    levels = [] }
+at_start limits = record {
+  limits = limits;
+  prints_success = false;
+  sorts = [];
+  functions = [];
+  definitions = [];
+  levels = [];
+}
 
 -- nothing declared, and the options as they are
 abbrev pub cleared : State → State
@@ -297,8 +309,11 @@ cleared state = record (at_start state.limits) { prints_success = state.prints_s
 
 -- what stands
 abbrev pub level_of : State → Level
-level_of state = record { sorts = length state.sorts; functions = length state.functions;
-    definitions = length state.definitions }
+level_of state = record {
+  sorts = length state.sorts;
+  functions = length state.functions;
+  definitions = length state.definitions;
+}
 
 -- n levels more
 abbrev pub pushed : ℕ → State → State

@@ -1,6 +1,6 @@
 -- The rows of a trigger, and how large a pattern is.
-use Rattle.std.specs.Prelude.{ℕ, zero, suc, Bool, true, false, cond, nat_le, ◌==◌, List, [], ◌∷◌, ◌++◌, map, length,
-    get_or, slice_set, replicate, sum_by}
+use Rattle.std.specs.Prelude.{ℕ, zero, suc, Bool, true, false, cond, nat_le, ◌==◌, List}
+use Rattle.std.specs.Prelude.{[], ◌∷◌, ◌++◌, map, length, get_or, slice_set, replicate, sum_by}
 use Rattle.std.specs.List.{list_any}
 use Rattle.formula_draft.specs.declared.draft_row.DraftRow.{DraftRow}
 use Rattle.formula_draft.specs.declared.draft_row.DraftRow.TheVariants.{Var, App}
@@ -61,8 +61,10 @@ renumbered numbers (App symbol args) = pattern.App symbol (numbered numbers args
 
 -- one row more, which is kept where it is reached
 abbrev pub kept_if : Bool → Kept → DraftRow → Kept
-kept_if true kept row = record { numbers = kept.numbers ++ length kept.rows ∷ [];
-    rows = kept.rows ++ renumbered kept.numbers row ∷ [] }
+kept_if true kept row = record {
+  numbers = kept.numbers ++ length kept.rows ∷ [];
+  rows = kept.rows ++ renumbered kept.numbers row ∷ [];
+}
 kept_if false kept row = record kept { numbers = kept.numbers ++ 0 ∷ [] }
 
 -- the reached rows, in the order in which they stand

@@ -7,8 +7,8 @@ use Rattle.formula_draft.specs.declared.draft_node.DraftNode.{DraftNode}
 use Rattle.formula_draft.specs.declared.draft_node.DraftNode.TheVariants.{Atom, And}
 use Rattle.smt_names.specs.declared.value.Value.{Value}
 use Rattle.smt_names.specs.declared.value.Value.TheVariants.{Term, Formula}
-use Rattle.smt_names.specs.declared.refusal.Refusal.TheVariants.{PatternIsVariable, PatternHasConnective,
-    PatternTooLarge}
+use Rattle.smt_names.specs.declared.refusal.Refusal.TheVariants.{PatternIsVariable, PatternHasConnective}
+use Rattle.smt_names.specs.declared.refusal.Refusal.TheVariants.{PatternTooLarge}
 use Rattle.smt_names.specs.Making.{Making, made, ◌>>=◌, ◌>>◌, want, refuse}
 use Rattle.smt_patterns.specs.Patterns.{size_of}
 

@@ -18,7 +18,7 @@ ChecksAs (Err stop) found making = (draft : Draft) → Refuses stop (making draf
 abbrev pub HasBindings : List Word → ℕ → Place → Result ℕ Stop → Type 0
 HasBindings words i missing (Ok after) = SeesList words i after
     × ((draft : Draft) → some_bindings missing (here words i) draft
-        ≡ Ok (record { paren = word_at words i; inner = here words (i + 1) }, draft))
+    ≡ Ok (record { paren = word_at words i; inner = here words (i + 1) }, draft))
 HasBindings words i missing (Err stop) = (draft : Draft) → Refuses stop (some_bindings missing (here words i) draft)
 
 -- the number that digits stand for, or that it has more than 128 bits

@@ -1,6 +1,6 @@
 -- What stands from a word on.
-use Rattle.std.specs.Prelude.{◌≡◌, ℕ, ◌+◌, ◌<◌, ◌^◌, Bool, true, false, List, [], length, get_or, drop, Option, Some,
-    None}
+use Rattle.std.specs.Prelude.{◌≡◌, ℕ, ◌+◌, ◌<◌, ◌^◌, Bool, true, false}
+use Rattle.std.specs.Prelude.{List, [], length, get_or, drop, Option, Some, None}
 use Rattle.smt_text.specs.Word.{Word}
 use Rattle.smt_text.specs.Trees.{ahead, outermost}
 use Rattle.smt_text.specs.declared.token.Kind.{Kind}

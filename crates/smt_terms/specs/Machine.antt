@@ -1,6 +1,6 @@
 -- Lists that are open while a term is elaborated, and what is left to do for them.
-use Rattle.std.specs.Prelude.{◌≡◌, ℕ, ◌+◌, ◌≤◌, ◌<◌, List, [], ◌∷◌, ◌++◌, length, reverse, take, true, false, Option,
-    Some, None, Result, Ok, Err}
+use Rattle.std.specs.Prelude.{◌≡◌, ℕ, ◌+◌, ◌≤◌, ◌<◌, List, [], ◌∷◌, ◌++◌, length}
+use Rattle.std.specs.Prelude.{reverse, take, true, false, Option, Some, None, Result, Ok, Err}
 use Rattle.smt_text.specs.Word.{Word}
 use Rattle.smt_text.specs.declared.token.Place.{Place}
 use Rattle.graph_terms.specs.declared.memory.Memory.{Memory}
@@ -35,8 +35,12 @@ use Rattle.smt_terms.specs.Cursor.{word_at, here, SeesList}
 
 -- the scope of a term where these names are bound
 abbrev pub scope_of : State → Inside → List Bound → Scope
-scope_of state inside bound = record { state = state; bound = bound; in_forall = inside.in_forall;
-    in_definition = inside.in_definition }
+scope_of state inside bound = record {
+  state = state;
+  bound = bound;
+  in_forall = inside.in_forall;
+  in_definition = inside.in_definition;
+}
 
 -- the scope with more names bound
 abbrev pub with_bound : Scope → List Bound → Scope
@@ -136,7 +140,7 @@ abbrev pub GoesOn : List Word → State → Inside → Place → List Frame → 
     (most : ℕ) → Next → Result (Value × Draft) SyntaxFault → Type 0
 GoesOn words state inside missing frames bound draft base most (step.At i) was =
     (was ≡ rest_of words state inside missing frames bound i draft) × (work_of words frames i ≤ most) ×
-        (base_of (reverse frames) bound ≡ base)
+    (base_of (reverse frames) bound ≡ base)
 GoesOn words state inside missing frames bound draft base most (step.Whole v) was = (was ≡ Ok (v, draft)) ×
     (bound ≡ base)
 
@@ -165,14 +169,14 @@ Gives words frames bound new_frames new_bound after at v
     (new_bound ≡ base_of (reverse frames) bound)
 Gives words frames bound new_frames new_bound after at v (Ok (given.At i)) =
     (state : State) (inside : Inside) (missing : Place) (draft : Draft) →
-        GoesOn words state inside missing new_frames new_bound draft (base_of (reverse frames) bound)
-        (work_of words frames after) (step.At i) (given_to words state inside frames bound after at v draft)
+    GoesOn words state inside missing new_frames new_bound draft (base_of (reverse frames) bound)
+    (work_of words frames after) (step.At i) (given_to words state inside frames bound after at v draft)
 Gives words frames bound new_frames new_bound after at v (Ok (given.Outer outer_at outer_next)) =
     ((state : State) (inside : Inside) (draft : Draft) →
-        given_to words state inside frames bound after at v draft
-        ≡ given_to words state inside new_frames new_bound outer_next outer_at v draft)
+    given_to words state inside frames bound after at v draft
+    ≡ given_to words state inside new_frames new_bound outer_next outer_at v draft)
     × (length new_frames < length frames) × (base_of (reverse new_frames) new_bound
-        ≡ base_of (reverse frames) bound) × (work_of words new_frames outer_next ≤ work_of words frames after)
+    ≡ base_of (reverse frames) bound) × (work_of words new_frames outer_next ≤ work_of words frames after)
 Gives words frames bound new_frames new_bound after at v (Err refused) = Unit {0}
 
 -- what giving it to a list did that was the innermost, of more than these
@@ -190,8 +194,8 @@ abbrev pub GivesOn : List Word → List Frame → List Bound → List Frame → 
     Result Next Memory → Type 0
 GivesOn words frames bound new_frames new_bound after at v (Ok n) =
     (state : State) (inside : Inside) (missing : Place) (draft : Draft) →
-        GoesOn words state inside missing new_frames new_bound draft (base_of (reverse frames) bound)
-        (work_of words frames after) n (given_to words state inside frames bound after at v draft)
+    GoesOn words state inside missing new_frames new_bound draft (base_of (reverse frames) bound)
+    (work_of words frames after) n (given_to words state inside frames bound after at v draft)
 GivesOn words frames bound new_frames new_bound after at v (Err refused) = Unit {0}
 
 -- A list with this meaning is a forall that stands outside foralls and definitions: its place, that of its head, and
@@ -207,12 +211,12 @@ abbrev pub Opens : List Word → State → Inside → List Frame → List Bound 
     (i after most : ℕ) → Meaning → Result Opened Stop → Type 0
 Opens words state inside frames bound new_frames new_bound i after most meaning (Ok (opened.At j)) =
     (missing : Place) (draft : Draft) → GoesOn words state inside missing new_frames new_bound draft
-        (base_of (reverse frames) bound) most (step.At j)
+    (base_of (reverse frames) bound) most (step.At j)
     (then_from (λ (v : Value). finish words (scope_of state inside bound) (reverse frames) (here words after)
-        (word_at words i).place v) (meaning (scope_of state inside bound) draft))
+    (word_at words i).place v) (meaning (scope_of state inside bound) draft))
 Opens words state inside frames bound new_frames new_bound i after most meaning (Ok opened.Universal) =
     IsUniversal inside meaning (word_at words i).place (word_at words (i + 1)).place (here words (i + 2)) ×
-        (new_frames ≡ frames) × (new_bound ≡ bound)
+    (new_frames ≡ frames) × (new_bound ≡ bound)
 Opens words state inside frames bound new_frames new_bound i after most meaning (Err stop) = (draft : Draft) →
     Refuses stop (meaning (scope_of state inside bound) draft)
 
@@ -309,9 +313,9 @@ abbrev pub Advances : List Word → State → Inside → Place → List Frame �
     Draft → ℕ → Result Next Stop → Type 0
 Advances words state inside missing frames bound new_frames new_bound draft later i (Ok (step.At j)) =
     (rest_of words state inside missing frames bound i draft
-        ≡ rest_of words state inside missing new_frames new_bound j later)
+    ≡ rest_of words state inside missing new_frames new_bound j later)
     × (base_of (reverse new_frames) new_bound ≡ base_of (reverse frames) bound) ×
-        (work_of words new_frames j < work_of words frames i)
+    (work_of words new_frames j < work_of words frames i)
 Advances words state inside missing frames bound new_frames new_bound draft later i
     (Ok (step.Whole v)) = (rest_of words state inside missing frames bound i draft ≡ Ok (v, later)) ×
     (new_bound ≡ base_of (reverse frames) bound)

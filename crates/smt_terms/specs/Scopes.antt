@@ -12,8 +12,12 @@ outside state = record { state = state; bound = []; in_forall = false; in_defini
 
 -- inside a definition of these parameters
 abbrev pub inside_definition : State → List Bound → Scope
-inside_definition state parameters = record { state = state; bound = parameters; in_forall = false;
-    in_definition = true }
+inside_definition state parameters = record {
+  state = state;
+  bound = parameters;
+  in_forall = false;
+  in_definition = true;
+}
 
 -- the sort of what a bound name stands for
 abbrev pub sort_of_stands : Stands → ℕ

@@ -1,6 +1,6 @@
 -- Terms and formulas: what each token and each list means.
-use Rattle.std.specs.Prelude.{ℕ, ◌+◌, Bool, true, false, cond, not, ◌&&◌, ◌||◌, ◌==◌, if◌then◌else◌, List, [], ◌∷◌,
-    ◌++◌, length, Option, Some, None, is_some, bytes_eq, codes}
+use Rattle.std.specs.Prelude.{ℕ, ◌+◌, Bool, true, false, cond, not, ◌&&◌, ◌||◌, ◌==◌, if◌then◌else◌}
+use Rattle.std.specs.Prelude.{List, [], ◌∷◌, ◌++◌, length, Option, Some, None, is_some, bytes_eq, codes}
 use Rattle.smt_text.specs.Word.{Word}
 use Rattle.smt_text.specs.declared.token.Kind.TheVariants.{Left, Right, Symbol, Keyword}
 use Rattle.smt_text.specs.declared.token.Place.{Place}
@@ -17,16 +17,16 @@ use Rattle.smt_names.specs.declared.stands.Stands.{Stands}
 use Rattle.smt_names.specs.declared.stands.Stands.TheVariants.{Given, Variable}
 use Rattle.smt_names.specs.declared.refusal.Refusal.TheVariants as refusal
 use Rattle.smt_names.specs.Value.{sort_of, self}
-use Rattle.smt_names.specs.Making.{Making, made, ◌>>=◌, ◌>>◌, want, refuse_named, bad_form, not_in_profile, row, node,
-    put_forall}
+use Rattle.smt_names.specs.Making.{Making, made, ◌>>=◌, ◌>>◌, want, refuse_named}
+use Rattle.smt_names.specs.Making.{bad_form, not_in_profile, row, node, put_forall}
 use Rattle.smt_names.specs.Names.{State, Scope, bound_as, Named, Unknown, named, is_reserved, is_symbol, is_keyword}
 use Rattle.smt_forms.specs.Applied.{applied}
 use Rattle.smt_patterns.specs.Roots.{small_root}
 use Rattle.smt_patterns.specs.Triggers.{rooted_trigger}
 use Rattle.smt_terms.specs.declared.form.Form.{Form}
 use Rattle.smt_terms.specs.declared.form.Form.TheVariants.{Let, Annotated, Universal, Foreign, Application}
-use Rattle.smt_terms.specs.Meant.{Meaning, Meant, End, Token, Group, from, first_place, no_more, at_least, exactly,
-    Listed, other_sort, some_bindings, no_binding, attributes_of}
+use Rattle.smt_terms.specs.Meant.{Meaning, Meant, End, Token, Group, from, first_place, no_more}
+use Rattle.smt_terms.specs.Meant.{at_least, exactly, Listed, other_sort, some_bindings, no_binding, attributes_of}
 
 -- Tokens.
 -- what a bound name stands for; inside a forall a formula must have a complement

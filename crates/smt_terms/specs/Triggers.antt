@@ -16,8 +16,8 @@ use Rattle.smt_names.specs.Makes.{Refuses}
 use Rattle.smt_names.specs.Names.{Scope}
 use Rattle.smt_patterns.specs.Triggers.{rooted_trigger}
 use Rattle.smt_terms.specs.Meant.{Meant, End, from, at_least, no_more}
-use Rattle.smt_terms.specs.Terms.{Attribute, value, truth, trigger, triggers, pattern_root, pattern_roots, add_root,
-    some_trigger}
+use Rattle.smt_terms.specs.Terms.{Attribute, value, truth, trigger, triggers}
+use Rattle.smt_terms.specs.Terms.{pattern_root, pattern_roots, add_root, some_trigger}
 use Rattle.smt_terms.specs.Cursor.{word_at, here}
 use Rattle.smt_terms.specs.Bodies.{attribute_at}
 use Rattle.smt_terms.specs.Machine.{weight}

@@ -1,7 +1,7 @@
 -- What follows of partners: which tokens they are, that there is one alone, and where the trees behind a list stand.
 use Rattle.std.proofs.lemmas.Bool.{cases_lt}
-use Rattle.std.proofs.Common.{inl, inr, Some, slice_get, ◌≡◌, ℕ, zero, suc, ◌+◌, ◌-◌, ◌≤◌, ◌<◌, List, [], ◌∷◌, ◌++◌,
-    length, take, drop, get_or, refl, ap, sym, ◌∙◌, arith, subst, add_assoc, length-drop}
+use Rattle.std.proofs.Common.{inl, inr, Some, slice_get, ◌≡◌, ℕ, zero, suc, ◌+◌, ◌-◌, ◌≤◌, ◌<◌, List, [], ◌∷◌, ◌++◌}
+use Rattle.std.proofs.Common.{length, take, drop, get_or, refl, ap, sym, ◌∙◌, arith, subst, add_assoc, length-drop}
 use Rattle.std.proofs.Math.Seq.{take-suc, get_or-drop, drop-drop}
 use Rattle.std.proofs.lemmas.List.{drop_more}
 use Rattle.smt_text.specs.Word.{Word}
@@ -34,7 +34,7 @@ span_more : (ks : List Kind) (p n : ℕ) → p ≤ n → n < length ks →
     span ks p (n + 1) ≡ span ks p n ++ get_or ks n Left ∷ []
 span_more ks p n before there =
     ap (λ (k : ℕ). take k (drop p ks)) one ∙ take-suc (drop p ks) (n - p) Left
-        (omega (arith, length-drop p ks, there, before))
+    (omega (arith, length-drop p ks, there, before))
     ∙ ap (λ (k : Kind). span ks p n ++ k ∷ []) (get_or-drop p ks (n - p) Left ∙ ap (λ (k : ℕ). get_or ks k Left) at)
   where
     one : n + 1 - p ≡ suc (n - p)
@@ -106,7 +106,7 @@ up [] n m there in_list out = absurd (omega (arith, there))
 up (word ∷ words) zero m there in_list out = first_up word.kind word m (ahead words) out
 up (word ∷ words) (suc n) m there in_list out =
     next_up word.kind word words n m (λ m'. up words n m' (omega (arith, there)))
-        (λ k less. in_list (suc k) (omega (arith, less))) out
+    (λ k less. in_list (suc k) (omega (arith, less))) out
 
 first_left : (kind : Kind) → closes kind + 0 < opens kind + 0 → kind ≡ Left
 first_left Left less = refl
@@ -143,8 +143,11 @@ module _ (ks : List Kind) (i j : ℕ) (c : Closes ks i j) where
 
   pub leaves : closed (take (suc (j - (i + 1))) (drop (i + 1) ks))
       ≡ opened (take (suc (j - (i + 1))) (drop (i + 1) ks)) + 1
-  leaves = omega (arith, subst (λ (xs : List Kind). closed xs ≡ opened xs) (behind (j + 1) (omega (arith, c.later))
-      ∙ ap (λ (n : ℕ). Left ∷ take n (drop (i + 1) ks)) back) c.even)
+  leaves = omega (
+    arith,
+    subst (λ (xs : List Kind). closed xs ≡ opened xs) (behind (j + 1) (omega (arith, c.later))
+        ∙ ap (λ (n : ℕ). Left ∷ take n (drop (i + 1) ks)) back) c.even,
+  )
     where
       back : j + 1 - (i + 1) ≡ suc (j - (i + 1))
       back = omega (arith, c.later)
@@ -170,20 +173,26 @@ pub Closes-right : (words : List Word) (i j : ℕ) (word : Word) → Closes (kin
     slice_get words j ≡ Some word → word.kind ≡ Right
 Closes-right words i j word c is = sym (at_kind words j word is)
     ∙ closing (get_or (kinds words) j Left) (closed (span (kinds words) i j)) (opened (span (kinds words) i j))
-        (c.least j c.later (omega arith))
+    (c.least j c.later (omega arith))
     (sym (closed_more (kinds words) i j (omega (arith, c.later)) c.there) ∙ c.even
-        ∙ opened_more (kinds words) i j (omega (arith, c.later)) c.there)
+    ∙ opened_more (kinds words) i j (omega (arith, c.later)) c.there)
 
 not_below : (ks : List Kind) (i j k : ℕ) → Closes ks i j → Closes ks i k → j < k → ⊥
-not_below ks i j k first second less = omega (arith, first.even,
-    second.least (j + 1) (omega (arith, first.later)) (omega (arith, less)))
+not_below ks i j k first second less = omega (
+  arith,
+  first.even,
+  second.least (j + 1) (omega (arith, first.later)) (omega (arith, less)),
+)
 
 -- one parenthesis alone closes it
 pub Closes-one : (ks : List Kind) (i j k : ℕ) → Closes ks i j → Closes ks i k → j ≡ k
 Closes-one ks i j k first second = elim (cases_lt j k) [
   | inl below ↦ absurd (not_below ks i j k first second below)
-  | inr above ↦ elim (cases_lt k j) [ inl below ↦ absurd (not_below ks i k j second first below) | inr same ↦ omega
-      (arith, above, same) ]
+  | inr above ↦ elim (cases_lt k j) [
+    | inl below ↦ absurd (not_below ks i k j second first below)
+    | inr same ↦ omega
+        (arith, above, same)
+  ]
 ]
 
 -- a whole command has two tokens or more, the first a left parenthesis and the last a right one
@@ -204,10 +213,15 @@ pub Closes-ahead : (words : List Word) (i j : ℕ) → Closes (kinds words) i j 
 unfolding outers
 Closes-ahead words i j c =
     ap (λ (n : ℕ). ahead (drop n words)) split ∙ ap ahead (sym (drop-drop (suc (j - (i + 1))) (i + 1) words))
-    ∙ up (drop (i + 1) words) (j - (i + 1)) 0 (omega (arith, length-drop (i + 1) words, length-kinds words, c.there,
-        c.later))
+    ∙ up (drop (i + 1) words) (j - (i + 1)) 0 (omega (
+      arith,
+      length-drop (i + 1) words,
+      length-kinds words,
+      c.there,
+      c.later,
+    ))
     (λ k less. rw (kinds-drop (i + 1) words) (inside (kinds words) i j c k less))
-        (rw (kinds-drop (i + 1) words) (leaves (kinds words) i j c))
+    (rw (kinds-drop (i + 1) words) (leaves (kinds words) i j c))
   where
     split : j + 1 ≡ i + 1 + suc (j - (i + 1))
     split = omega (arith, c.later)

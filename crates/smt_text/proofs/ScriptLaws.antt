@@ -1,6 +1,7 @@
 -- Each command of a script is whole.
-use Rattle.std.proofs.Common.{◌≡◌, ℕ, zero, suc, pred, ◌+◌, ◌-◌, ◌≤◌, ◌<◌, Bool, true, false, cond, not, List, [],
-    ◌∷◌, ◌++◌, length, take, refl, ap, sym, ◌∙◌, Option, Some, None, arith, subst, length-append, inl, inr, ◌||◌}
+use Rattle.std.proofs.Common.{◌≡◌, ℕ, zero, suc, pred, ◌+◌, ◌-◌, ◌≤◌, ◌<◌, Bool, true}
+use Rattle.std.proofs.Common.{false, cond, not, List, [], ◌∷◌, ◌++◌, length, take, refl, ap}
+use Rattle.std.proofs.Common.{sym, ◌∙◌, Option, Some, None, arith, subst, length-append, inl, inr, ◌||◌}
 use Rattle.std.specs.Prelude.{nat_lt, ◌==◌, ◌&&◌}
 use Rattle.std.proofs.lemmas.Bool.Decides.{nat_tests}
 use Rattle.std.proofs.lemmas.Bool.{cases_lt}
@@ -9,8 +10,8 @@ use Rattle.em_outside.specs.declared.limits.Limits.{Limits}
 use Rattle.smt_text.specs.Bytes.{is_stray, is_white}
 use Rattle.smt_text.specs.Lexicon.{lexeme, comment_from}
 use Rattle.smt_text.specs.Word.{Word}
-use Rattle.smt_text.specs.Script.{Script, read_from, script_from, past_of, after_token, after_lexeme, at_end,
-    place_after, text_of}
+use Rattle.smt_text.specs.Script.{Script, read_from, script_from, past_of, after_token}
+use Rattle.smt_text.specs.Script.{after_lexeme, at_end, place_after, text_of}
 use Rattle.smt_text.specs.Partners.{kinds, opens, closes, opened, closed, span, IsWhole, AllWhole}
 use Rattle.smt_text.specs.declared.token.Kind.{Kind}
 use Rattle.smt_text.specs.declared.token.Kind.TheVariants.{Left, Right}
@@ -74,8 +75,11 @@ whole_word words word nests is = record {
     none (k ∷ ks) len = absurd (omega (arith, len))
 
     some : 1 ≤ length words
-    some = elim (cases_lt 0 (length words)) [ inl more ↦ more | inr zero_long ↦ absurd
-        (omega (arith, nests.deep, none (kinds words) (omega (arith, zero_long, length-kinds words)))) ]
+    some = elim (cases_lt 0 (length words)) [
+      | inl more ↦ more
+      | inr zero_long ↦ absurd
+          (omega (arith, nests.deep, none (kinds words) (omega (arith, zero_long, length-kinds words))))
+    ]
 
     closes_one : closes word.kind ≡ 1
     closes_one = ap closes is
@@ -84,8 +88,14 @@ whole_word words word nests is = record {
     opens_none = ap opens is
 
     even : closed (kinds (words ++ word ∷ [])) ≡ opened (kinds (words ++ word ∷ []))
-    even = rw (kinds-append words (word ∷ [])) (omega (arith, opened-append (kinds words) (word.kind ∷ []),
-        closed-append (kinds words) (word.kind ∷ []), nests.deep, closes_one, opens_none))
+    even = rw (kinds-append words (word ∷ [])) (omega (
+      arith,
+      opened-append (kinds words) (word.kind ∷ []),
+      closed-append (kinds words) (word.kind ∷ []),
+      nests.deep,
+      closes_one,
+      opens_none,
+    ))
 
     front : (k : ℕ) → k ≤ length (words ++ word ∷ []) - 1 →
         span (kinds (words ++ word ∷ [])) 0 k ≡ take k (kinds words)
@@ -114,17 +124,17 @@ token_whole : (deepest : ℕ) (past : Option Place) (rest : ℕ → List Word �
     Script) (depth : ℕ) (words : List Word) (word : Word) (kind : Kind)
     → word.kind ≡ kind → Nests depth (kinds words) → (depth ≡ 0 → kind ≡ Left)
     → ((d : ℕ) (w : List Word) → Nests d (kinds w) → AllWhole (rest d w)) →
-        AllWhole (after_token deepest past rest depth words word kind)
+    AllWhole (after_token deepest past rest depth words word kind)
 unfolding after_token
 token_whole deepest past rest depth words word Left is nests begin wholes =
     cond_whole (nat_lt depth deepest) _ _ (λ _. wholes (depth + 1) (words ++ word ∷ [])
-        (nests_word depth (depth + 1) words word nests (rw is (omega arith)) (omega arith))) (λ _. tt)
+    (nests_word depth (depth + 1) words word nests (rw is (omega arith)) (omega arith))) (λ _. tt)
 token_whole deepest past rest depth words word Right is nests begin wholes =
     cond_whole (depth == 1) _ _
     (λ one. let P : ℕ → Type 0 = λ d. Nests d (kinds words) in
     (whole_word words word (subst P (grind (arith, nat_tests, one)) nests) is, wholes 0 [] nests_none))
     (λ more. wholes (depth - 1) (words ++ word ∷ []) (nests_word depth (depth - 1) words word nests
-        (rw is (omega (arith, some, not_one more))) (omega (arith, some, not_one more))))
+    (rw is (omega (arith, some, not_one more))) (omega (arith, some, not_one more))))
   where
     some : 1 ≤ depth
     some = some_deep depth (λ none. cc (begin none))
@@ -133,19 +143,19 @@ token_whole deepest past rest depth words word Right is nests begin wholes =
     not_one more one = cc (more, ap (λ (d : ℕ). d == 1) one)
 token_whole deepest past rest depth words word kind is nests begin wholes =
     wholes depth (words ++ word ∷ []) (nests_word depth depth words word nests (rw is refl)
-        (some_deep depth (λ none. cc (begin none))))
+    (some_deep depth (λ none. cc (begin none))))
 
 lexeme_whole : (deepest : ℕ) (past : Option Place) (rest : ℕ → List Word → ℕ →
     Script) (depth : ℕ) (words : List Word) (place : Place) (bytes : List ℕ) (l : Lexeme)
     → Nests depth (kinds words) → (depth ≡ 0 → (kind : Kind) (n : ℕ) → l ≡ Token kind n → kind ≡ Left)
     → ((d : ℕ) (w : List Word) (n : ℕ) → Nests d (kinds w) → AllWhole (rest d w n)) →
-        AllWhole (after_lexeme deepest past rest depth words place bytes l)
+    AllWhole (after_lexeme deepest past rest depth words place bytes l)
 unfolding after_lexeme
 lexeme_whole deepest past rest depth words place bytes (Blank n) nests begin wholes = wholes depth words n nests
 lexeme_whole deepest past rest depth words place bytes (Token kind n) nests begin wholes =
     token_whole deepest past (λ d w. rest d w n) depth words
-        (record { kind = kind; place = place; text = text_of kind (take n bytes) }) kind refl nests
-        (λ none. begin none kind n refl) (λ d w. wholes d w n)
+    (record { kind = kind; place = place; text = text_of kind (take n bytes) }) kind refl nests
+    (λ none. begin none kind n refl) (λ d w. wholes d w n)
 lexeme_whole deepest past rest depth words place bytes (Ill n) nests begin wholes = tt
 lexeme_whole deepest past rest depth words place bytes Cut nests begin wholes = end_whole past words
 
@@ -185,9 +195,9 @@ from_whole deepest past (b ∷ bytes) depth words (suc skip) place nests = from_
 from_whole deepest past (b ∷ bytes) depth words zero place nests =
     cond_whole (depth == 0 && is_stray b) _ _ (λ _. tt) (λ may.
     lexeme_whole deepest past (λ d w n. read_from deepest past d w (pred n) (place_after place b) bytes) depth words
-        place (b ∷ bytes) (lexeme (b ∷ bytes)) nests
+    place (b ∷ bytes) (lexeme (b ∷ bytes)) nests
     (λ none. opens_one b bytes (no_stray none may)) (λ d w n. from_whole deepest past bytes d w (pred n)
-        (place_after place b)))
+    (place_after place b)))
   where
     no_stray : depth ≡ 0 → (depth == 0 && is_stray b) ≡ false → is_stray b ≡ false
     no_stray none may = subst (λ (d : ℕ). (d == 0 && is_stray b) ≡ false) none may
@@ -198,4 +208,4 @@ pub script-whole : (limits : Limits) (place : Place) (before : ℕ) (bytes : Lis
 unfolding script_from
 script-whole limits place before bytes =
     from_whole limits.depth (past_of (limits.bytes - before) place bytes) (take (limits.bytes - before) bytes) 0 [] 0
-        place nests_none
+    place nests_none

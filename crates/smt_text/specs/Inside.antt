@@ -1,8 +1,8 @@
 -- What the bytes of a lexeme so far are, and what one byte more makes of it.
 use Rattle.std.specs.Prelude.{◌≡◌, ℕ, ◌+◌, ◌≤◌, true, false, List, ◌∷◌}
 use Rattle.smt_text.specs.Bytes.{is_digit, is_hex_digit, is_binary_digit}
-use Rattle.smt_text.specs.Lexicon.{lexeme, comment_from, symbol_from, keyword_from, zero_from, numeral_from,
-    some_from, run_from, based_from, text_from, barred_from}
+use Rattle.smt_text.specs.Lexicon.{lexeme, comment_from, symbol_from, keyword_from, zero_from, numeral_from}
+use Rattle.smt_text.specs.Lexicon.{some_from, run_from, based_from, text_from, barred_from}
 use Rattle.smt_text.specs.declared.token.Kind.TheVariants as kind
 use Rattle.smt_text.specs.declared.lexeme.Lexeme.{Lexeme}
 use Rattle.smt_text.specs.declared.lexeme.Lexeme.TheVariants.{Blank, Token, Ill, Cut}

@@ -1,6 +1,6 @@
 -- How the partners of the tokens of a command are found.
-use Rattle.std.specs.Prelude.{◌≡◌, ◌⊎◌, ℕ, ◌+◌, ◌-◌, ◌<◌, ◌≤◌, ◌^◌, List, [], ◌∷◌, length, slice_index,
-    slice_index_or}
+use Rattle.std.specs.Prelude.{◌≡◌, ◌⊎◌, ℕ, ◌+◌, ◌-◌, ◌<◌, ◌≤◌}
+use Rattle.std.specs.Prelude.{◌^◌, List, [], ◌∷◌, length, slice_index, slice_index_or}
 use Rattle.smt_text.specs.Word.{AreInPlace}
 use Rattle.smt_text.specs.Partners.{opened, closed, span, Closes, IsPartner}
 use Rattle.smt_text.specs.declared.token.Kind.{Kind}
