@@ -7,8 +7,8 @@ PROGRAM is the built program `ematch`. Each kind of script is made for n, 2n and
 standard input. A line for each run gives the seconds that it took by the clock, the most memory that it held, how many
 matches it listed in all, and how many times longer it took than the run before: about 2 where the time grows with n,
 about 4 where it grows with the square of n. Where `z3` or `cvc5` are installed (`apt-get install z3 cvc5`), they are given
-the same script, and their seconds stand last; they instantiate the foralls and list nothing. The script measures and
-judges nothing.
+the same script, and their seconds stand last, with how many times the faster one's the program took; they instantiate the
+foralls and list nothing. The script measures and judges nothing.
 """
 
 import argparse
@@ -20,98 +20,183 @@ import tempfile
 import time
 
 
-def head(functions, constants):
-    """Declares the sort, the functions with their numbers of arguments, and the constants."""
-    lines = ["(set-logic UF)", "(declare-sort U 0)"]
-    for name, arity in functions:
-        lines.append(f"(declare-fun {name} ({' '.join(['U'] * arity)}) U)")
-    for name in constants:
-        lines.append(f"(declare-const {name} U)")
-    return lines
+class Script:
+    """A script under way. The bodies of foralls and the facts are atoms of predicates of their own, so that an
+    instance tells a solver something new and a fact says nothing of equality."""
+
+    def __init__(self, functions, constants):
+        self.lines = ["(set-logic UF)", "(declare-sort U 0)", "(declare-fun holds (U) Bool)"]
+        for name, arity in functions:
+            self.lines.append(f"(declare-fun {name} ({' '.join(['U'] * arity)}) U)")
+        for name in constants:
+            self.lines.append(f"(declare-const {name} U)")
+        self.bodies = 0
+
+    def add(self, line):
+        self.lines.append(line)
+
+    def equal(self, left, right):
+        self.add(f"(assert (= {left} {right}))")
+
+    def fact(self, term):
+        """The term stands."""
+        self.add(f"(assert (holds {term}))")
+
+    def check(self):
+        self.add("(check-sat)")
+        return self.lines
+
+    def forall(self, names, *triggers):
+        """A forall over these variables; each trigger is the text of its patterns."""
+        body = f"body{self.bodies}"
+        self.bodies += 1
+        self.add(f"(declare-fun {body} ({' '.join(['U'] * len(names))}) Bool)")
+        bound = " ".join(f"({name} U)" for name in names)
+        patterns = " ".join(f":pattern ({trigger})" for trigger in triggers)
+        self.add(f"(assert (forall ({bound}) (! ({body} {' '.join(names)}) {patterns})))")
 
 
-def forall(names, *patterns):
-    """A forall over these variables with one trigger of these patterns."""
-    bound = " ".join(f"({name} U)" for name in names)
-    first = names[0]
-    return f"(assert (forall ({bound}) (! (= {first} {first}) :pattern ({' '.join(patterns)}))))"
-
-
-def equal(left, right):
-    return f"(assert (= {left} {right}))"
+def constants(name, count):
+    return [f"{name}{k}" for k in range(count)]
 
 
 def collapse(n):
     """f(c0) = c1, f(c1) = c2 and so on, and then c0 = c1: n terms become one class in one cascade."""
-    lines = head([("f", 1)], [f"c{i}" for i in range(n + 1)])
-    lines.append(forall(["x"], "(f (f x))"))
-    lines += [equal(f"(f c{i})", f"c{i + 1}") for i in range(n)]
-    lines += [equal("c0", "c1"), "(check-sat)"]
-    return lines
+    script = Script([("f", 1)], constants("c", n + 1))
+    script.forall(["x"], "(f (f x))")
+    for i in range(n):
+        script.equal(f"(f c{i})", f"c{i + 1}")
+    script.equal("c0", "c1")
+    return script.check()
 
 
 def levels(n):
     """The same chain, which each of n levels collapses anew."""
-    lines = head([("f", 1)], [f"c{i}" for i in range(65)])
-    lines.append(forall(["x"], "(f (f x))"))
-    lines += [equal(f"(f c{i})", f"c{i + 1}") for i in range(64)]
+    script = Script([("f", 1)], constants("c", 65))
+    script.forall(["x"], "(f (f x))")
+    for i in range(64):
+        script.equal(f"(f c{i})", f"c{i + 1}")
     for _ in range(n):
-        lines += ["(push 1)", equal("c0", "c1"), "(check-sat)", "(pop 1)"]
-    return lines
+        script.add("(push 1)")
+        script.equal("c0", "c1")
+        script.check()
+        script.add("(pop 1)")
+    return script.lines
 
 
 def heap(n):
     """A chain of n updates of a heap, with a read at the updated place and at another after each."""
-    constants = ["h0"] + [f"h{k + 1}" for k in range(n)] + [f"i{k}" for k in range(n)] + [f"v{k}" for k in range(n)]
-    lines = head([("select", 2), ("store", 3)], constants)
-    lines.append(forall(["h", "i", "v"], "(select (store h i v) i)"))
-    lines.append(forall(["h", "i", "v", "j"], "(select (store h i v) j)"))
+    script = Script([("select", 2), ("store", 3)], constants("h", n + 1) + constants("i", n) + constants("v", n))
+    script.forall(["h", "i", "v"], "(select (store h i v) i)")
+    script.forall(["h", "i", "v", "j"], "(select (store h i v) j)")
     for k in range(n):
-        lines.append(equal(f"h{k + 1}", f"(store h{k} i{k} v{k})"))
-        lines.append(equal(f"(select h{k + 1} i{k})", f"v{k}"))
-        other = f"(select h{k + 1} i{k // 2})"
-        lines.append(equal(other, other))
-    lines.append("(check-sat)")
-    return lines
+        script.equal(f"h{k + 1}", f"(store h{k} i{k} v{k})")
+        script.equal(f"(select h{k + 1} i{k})", f"v{k}")
+        script.fact(f"(select h{k + 1} i{k // 2})")
+    return script.check()
 
 
 def fronts(n, triggers=32):
     """n ground facts, each matched by one of 32 triggers whose patterns begin alike."""
-    functions = [("f", 1), ("p", 2)] + [(f"e{k}", 1) for k in range(triggers)]
-    lines = head(functions, [f"a{j}" for j in range(n)])
+    script = Script([("f", 1), ("p", 2)] + [(f"e{k}", 1) for k in range(triggers)], constants("a", n))
     for k in range(triggers):
-        lines.append(forall(["x"], f"(p (f (f (f (f (f x))))) (e{k} x))"))
+        script.forall(["x"], f"(p (f (f (f (f (f x))))) (e{k} x))")
     for j in range(n):
-        fact = f"(p (f (f (f (f (f a{j}))))) (e{j % triggers} a{j}))"
-        lines.append(equal(fact, fact))
-    lines.append("(check-sat)")
-    return lines
+        script.fact(f"(p (f (f (f (f (f a{j}))))) (e{j % triggers} a{j}))")
+    return script.check()
+
+
+def joins(n):
+    """Two triggers of two patterns that share a variable, over n constants that two levels merge in pairs."""
+    script = Script([("f", 1), ("g", 2)], constants("c", n))
+    script.forall(["x"], "(f x) (g x x)")
+    script.forall(["x", "y"], "(g x (f y))")
+    for k in range(n):
+        script.fact(f"(f c{k})")
+        script.fact(f"(g c{k} (f c{(k + 1) % n}))")
+    script.check()
+    for level in (2, 4):
+        script.add("(push 1)")
+        for k in range(0, n - level, level):
+            script.equal(f"(f c{k})", f"c{k + level // 2}")
+        script.check()
+    script.add("(pop 1)")
+    script.check()
+    script.add("(pop 1)")
+    return script.check()
+
+
+def chain(n):
+    """A trigger of two patterns, each of which is a step of a chain of n facts."""
+    script = Script([("g", 2)], constants("c", n + 1))
+    script.forall(["x", "y", "z"], "(g x y) (g y z)")
+    for k in range(n):
+        script.fact(f"(g c{k} c{k + 1})")
+    return script.check()
+
+
+def towers(n):
+    """n constants under towers of f and g, merged in pairs."""
+    script = Script([("f", 1), ("g", 2)], constants("c", n))
+    script.forall(["x"], "(f (f (f x)))")
+    for k in range(n):
+        script.fact(f"(f (f (f (g c{k} (f c{k})))))")
+    for k in range(0, n - 1, 2):
+        script.equal(f"c{k}", f"c{k + 1}")
+    return script.check()
+
+
+def large_class(n):
+    """f of each of n constants that are merged into one class, the last two first."""
+    script = Script([("f", 1)], constants("c", n))
+    script.forall(["x"], "(f x)")
+    for k in range(n):
+        script.fact(f"(f c{k})")
+    for k in range(n - 1, 0, -1):
+        script.equal(f"c{k}", f"c{k - 1}")
+    return script.check()
+
+
+def facts(n):
+    """n ground facts and nothing that matches them."""
+    script = Script([("f", 1), ("g", 2)], constants("c", n))
+    for k in range(n):
+        script.fact(f"(g (f (f c{k})) (g c{k} c{k // 2}))")
+    return script.check()
+
+
+def many_foralls(n):
+    """n foralls with a trigger each, over one symbol each, and one fact for each."""
+    script = Script([(f"f{k}", 1) for k in range(n)], ["c"])
+    for k in range(n):
+        script.forall(["x"], f"(f{k} x)")
+        script.fact(f"(f{k} c)")
+    return script.check()
 
 
 def wide_let(n):
     """One let of n bindings, each of which is used."""
-    lines = head([("f", 1)], ["c"])
+    script = Script([("f", 1)], ["c"])
     bindings = " ".join(f"(x{k} (f c))" for k in range(n))
     parts = " ".join(f"(= x{k} c)" for k in range(n))
-    lines += [f"(assert (let ({bindings}) (and {parts})))", "(check-sat)"]
-    return lines
+    script.add(f"(assert (let ({bindings}) (and {parts})))")
+    return script.check()
 
 
 def nested_lets(n):
     """n lets, each inside the one before, of one binding each."""
-    lines = head([("f", 1)], ["c"])
+    script = Script([("f", 1)], ["c"])
     opened = "(let ((x0 (f c))) " + "".join(f"(let ((x{k} (f x{k - 1}))) " for k in range(1, n))
-    lines += [f"(assert {opened}(= x0 x{n - 1}){')' * n})", "(check-sat)"]
-    return lines
+    script.add(f"(assert {opened}(= x0 x{n - 1}){')' * n})")
+    return script.check()
 
 
 def many_triggers(n):
     """One forall with n triggers of one pattern each."""
-    lines = head([(f"f{k}", 1) for k in range(n)], ["c"])
-    patterns = " ".join(f":pattern ((f{k} x))" for k in range(n))
-    lines.append(f"(assert (forall ((x U)) (! (= x x) {patterns})))")
-    lines += [equal("(f0 c)", "c"), "(check-sat)"]
-    return lines
+    script = Script([(f"f{k}", 1) for k in range(n)], ["c"])
+    script.forall(["x"], *(f"(f{k} x)" for k in range(n)))
+    script.equal("(f0 c)", "c")
+    return script.check()
 
 
 KINDS = [
@@ -119,6 +204,12 @@ KINDS = [
     ("levels", levels),
     ("heap", heap),
     ("fronts", fronts),
+    ("joins", joins),
+    ("chain", chain),
+    ("towers", towers),
+    ("large class", large_class),
+    ("facts", facts),
+    ("many foralls", many_foralls),
     ("wide let", wide_let),
     ("nested lets", nested_lets),
     ("many triggers", many_triggers),
@@ -174,9 +265,14 @@ def measure(program, others, kind, make, n, seconds):
         cells.append("" if before is None else f"x {took / before:.2f}")
         if status != 0:
             cells.append(f"status {status}")
+        fastest = None
         for name, command in others:
             other = run(command, script, seconds)
             cells.append(f"{name} {other[0]:.3f} s" if other[3] == 0 else f"{name} {other[3]}")
+            if other[3] == 0 and (fastest is None or other[0] < fastest):
+                fastest = other[0]
+        if fastest is not None:
+            cells.append(f"{took / fastest:.2f} of the faster peer")
         print("  ".join(cell for cell in cells if cell), flush=True)
         if status == "cut off":
             return
