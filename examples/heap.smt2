@@ -6,7 +6,7 @@
 (declare-const field Value)
 (declare-const value Value)
 (assert (forall ((h Value) (r Value) (v Value)) (! (= (select (update h r v) r) v) :pattern ((update h r v)))))
-(assert (forall ((h Value) (r Value) (v Value) (s Value)) (! (= (select (update h r v) s) (select (update h r v) s)) :pattern ((select (update h r v) s)))))
+(assert (forall ((h Value) (r Value) (v Value) (s Value)) (! (or (= r s) (= (select (update h r v) s) (select h s))) :pattern ((select (update h r v) s)))))
 (assert (= heap1 (update heap0 field value)))
 (check-sat)
 (push 1)
