@@ -2,3 +2,4 @@ pub mod Number
 pub mod Texts
 pub mod Meaning
 pub mod ClapCommand
+pub mod Task

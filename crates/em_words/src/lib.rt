@@ -6,11 +6,13 @@ mod given;
 mod job;
 mod laws;
 mod number;
+mod task;
 mod words;
 
 pub use fault::WordsFault;
 pub use job::Job;
 pub use laws::hyphen_law;
+pub use task::{Task, task_asked};
 pub use words::{Words, read_words};
 
 #[cfg(test)]

@@ -25,7 +25,7 @@ use Rattle.ematch_cli.specs.WritesError.{WritesError}
 use Rattle.ematch_cli.specs.Headline.{Wrote, WroteFront, WroteFrontOf, Ends, Answers}
 use Rattle.ematch_cli.specs.declared.status.Status.{Status}
 use Rattle.ematch_cli.specs.declared.status.Status.TheVariants as status
-use Rattle.ematch_cli.specs.declared.task.Task.{Task}
+use Rattle.em_words.specs.declared.task.Task.{Task}
 use Rattle.ematch_cli.proofs.OneAnswer.{answer_once}
 use Rattle.ematch_cli.proofs.Reached.{Reached, ahead, reached_read, reached_reply, answered, answered_taken, answered_only, ends_only, no_memory, open_failed, finished_failed, open_answer, open_only, fault_answer, end_answer, end_only, refused_answer, exit_answer, right_now, unclosed, front_none, front_taken, fault_front, unclosed_front, refused_front, reply_front}
 

@@ -24,8 +24,8 @@ use Rattle.ematch_cli.specs.Response.{IsCheckResponse, IsResponse}
 use Rattle.ematch_cli.specs.RunState.{RunState, run_state}
 use Rattle.ematch_cli.specs.Run.{repeated, Does, answered, Replies, FindsNoRoom, IsRefused}
 use Rattle.ematch_cli.specs.Output.{Answer, Finished, IsAnswer, BeginsWith, IsAnswerFront, behind, failure, last, opening}
-use Rattle.ematch_cli.specs.declared.task.Task.{Task}
-use Rattle.ematch_cli.specs.declared.task.Task.TheVariants.{Matches}
+use Rattle.em_words.specs.declared.task.Task.{Task}
+use Rattle.em_words.specs.declared.task.Task.TheVariants.{Matches}
 use Rattle.ematch_cli.proofs.OneText.{listing_once}
 
 -- what holds between two commands of a run

@@ -22,7 +22,7 @@ use Rattle.ematch_cli.specs.Output.{Answer, Ending, Open, Finished, Failed, IsAn
 use Rattle.ematch_cli.specs.ErrorLine.{fault_line}
 use Rattle.ematch_cli.specs.Headline.{WroteFrontOf, Answers}
 use Rattle.ematch_cli.specs.declared.status.Status.TheVariants as status
-use Rattle.ematch_cli.specs.declared.task.Task.{Task}
+use Rattle.em_words.specs.declared.task.Task.{Task}
 use Rattle.ematch_cli.proofs.OneAnswer.{IsRight, right_opening, right_after, replies_once, refused_replies}
 
 -- a script that begins with these commands

@@ -10,7 +10,7 @@ use Rattle.ematch_cli.specs.Output.{IsOutput, IsOutputSoFar, IsFrontOf}
 use Rattle.ematch_cli.specs.declared.status.Status.{Status}
 use Rattle.ematch_cli.specs.declared.status.Status.TheVariants.{Done, ScriptError, WordsRefused}
 use Rattle.ematch_cli.specs.declared.status.Status.TheVariants.{ReadFault, WriteFault, NoMemory}
-use Rattle.ematch_cli.specs.declared.task.Task.{Task}
+use Rattle.em_words.specs.declared.task.Task.{Task}
 
 -- a sink gained the whole of such an answer, which ends so
 abbrev pub Wrote : Option (List ℕ) → Option (List ℕ) → (Answer → Type 0) → Ending → Type 0

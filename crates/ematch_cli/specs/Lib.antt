@@ -5,7 +5,6 @@ pub mod ErrorLine
 pub mod Response
 pub mod Run
 pub mod Status
-pub mod Words
 pub mod Output
 pub mod Headline
 pub mod WritesError

@@ -11,7 +11,7 @@ use Rattle.smt_commands.specs.declared.command.Command.TheVariants.{Exit}
 use Rattle.ematch_cli.specs.ErrorLine.{fault_line}
 use Rattle.ematch_cli.specs.Run.{Replies, IsRefused}
 use Rattle.ematch_cli.specs.RunState.{RunState, run_state}
-use Rattle.ematch_cli.specs.declared.task.Task.{Task}
+use Rattle.em_words.specs.declared.task.Task.{Task}
 
 -- how the answer to some bytes ends: more may follow, or by the end of the script or its `exit`, or by an error
 pub data Ending : Type 0 where

@@ -15,7 +15,7 @@ use Rattle.ematch_cli.specs.ErrorLine.{refusal_line, room_line}
 use Rattle.ematch_cli.specs.Run.{Replies, IsRefused}
 use Rattle.ematch_cli.specs.RunState.{RunState}
 use Rattle.ematch_cli.specs.declared.reply.Reply.{Reply}
-use Rattle.ematch_cli.specs.declared.task.Task.{Task}
+use Rattle.em_words.specs.declared.task.Task.{Task}
 use Rattle.ematch_cli.specs.declared.unanswered.Unanswered.{Unanswered}
 use Rattle.ematch_cli.specs.declared.unanswered.Unanswered.TheVariants.{Refused, Memory}
 

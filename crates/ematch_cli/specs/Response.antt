@@ -8,8 +8,8 @@ use Rattle.smt_commands.specs.declared.info.Info.TheVariants as info
 use Rattle.ematch_cli.specs.Listing.{line, IsListing}
 use Rattle.em_printing.specs.Names.{names_of}
 use Rattle.ematch_cli.specs.RunState.{RunState}
-use Rattle.ematch_cli.specs.declared.task.Task.{Task}
-use Rattle.ematch_cli.specs.declared.task.Task.TheVariants.{Matches}
+use Rattle.em_words.specs.declared.task.Task.{Task}
+use Rattle.em_words.specs.declared.task.Task.TheVariants.{Matches}
 
 -- the line `success`, where it is printed
 abbrev pub success : Bool → List ℕ

@@ -15,7 +15,7 @@ use Rattle.smt_commands.specs.declared.command.Command.TheVariants as command
 use Rattle.ematch_cli.specs.ErrorLine.{refusal_line, room_line}
 use Rattle.ematch_cli.specs.Response.{IsResponse}
 use Rattle.ematch_cli.specs.RunState.{RunState}
-use Rattle.ematch_cli.specs.declared.task.Task.{Task}
+use Rattle.em_words.specs.declared.task.Task.{Task}
 
 -- so many times
 abbrev pub repeated : ℕ → (Assertions → Assertions) → Assertions → Assertions

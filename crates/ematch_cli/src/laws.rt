@@ -2,7 +2,7 @@
 ghost use Rattle.std.specs.Prelude.{◌≡◌, ℕ, true, false, List};
 ghost use Rattle.em_outside.specs.declared.limits.Limits.{Limits};
 ghost use Rattle.ematch_cli.specs.Output.{Answer, BeginsWith, IsOutput, IsOutputSoFar, IsFrontOf};
-ghost use Rattle.ematch_cli.specs.declared.task.Task.{Task};
+ghost use Rattle.em_words.specs.declared.task.Task.{Task};
 
 use smt_commands::laws::session_law;
 

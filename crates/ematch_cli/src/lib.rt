@@ -9,10 +9,8 @@ mod response;
 mod run;
 mod script;
 mod status;
-mod task;
 mod unanswered;
 
 pub use laws::{front_law, one_answer};
 pub use run::{report, run_alone};
 pub use status::Status;
-pub use task::Task;

@@ -9,12 +9,12 @@ ghost use Rattle.ematch_cli.specs.Response.{IsCheckResponse, IsResponse};
 ghost use Rattle.ematch_cli.specs.RunState.{RunState, run_state};
 ghost use Rattle.ematch_cli.specs.Reply.{IsReply, IsUnanswered, FindsNoRoomFor, IsWithoutRoom, IsUnread};
 
-use crate::Task;
 use crate::error_line::{refusal_line, room_line};
 use crate::listing::listing;
 use crate::response::{info_text, success, unsupported};
 use crate::unanswered::Unanswered;
 use em_outside::Limits;
+use em_words::Task;
 use formula_assert::AssertionStack;
 use formula_draft::Formula;
 use formula_table::EnterFault;

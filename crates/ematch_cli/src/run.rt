@@ -3,14 +3,13 @@ ghost use Rattle.std.specs.Prelude.{◌≡◌, ◌≢◌, ◌⊎◌, None, IfSom
 ghost use Rattle.em_outside.specs.Causes.{Rose};
 ghost use Rattle.em_outside.specs.Limits.{AreLawful};
 ghost use Rattle.ematch_cli.specs.Headline.{Answers, Reports};
-ghost use Rattle.ematch_cli.specs.Words.{task_asked};
+ghost use Rattle.em_words.specs.Task.{task_asked};
 
 use crate::script::answer_script;
 use crate::status::{Status, text_of};
-use crate::task::task_asked;
 use em_outside::{Limits, Sink, Source, write_all};
-use graph_terms::Memory;
-use std::alloc::Global;
+use em_words::task_asked;
+use std::alloc::{AllocError, Global};
 
 /// Reads and answers the script, where the words ask for this.
 fn run_words<I: Source, O: Sink>(
@@ -34,7 +33,7 @@ fn run_words<I: Source, O: Sink>(
     match task_asked(alloc, words) {
         Ok(Some(task)) => answer_script(alloc, task, limits, input, out),
         Ok(None) => Status::WordsRefused,
-        Err(Memory) => Status::NoMemory,
+        Err(AllocError) => Status::NoMemory,
     }
 }
 

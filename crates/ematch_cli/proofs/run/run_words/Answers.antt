@@ -2,9 +2,9 @@ use Rattle.std.specs.Prelude.{IfSome}
 use Rattle.std.proofs.Common.{Option, Some, None, List, ℕ}
 use Rattle.em_outside.specs.declared.limits.Limits.{Limits}
 use Rattle.ematch_cli.specs.Headline.{Answers}
-use Rattle.ematch_cli.specs.Words.{task_asked}
+use Rattle.em_words.specs.Task.{task_asked}
 use Rattle.ematch_cli.specs.declared.status.Status.TheVariants.{NoMemory}
-use Rattle.ematch_cli.specs.declared.task.Task.{Task}
+use Rattle.em_words.specs.declared.task.Task.{Task}
 use Rattle.ematch_cli.proofs.Exits.{nothing_read}
 use Rattle.ematch_cli.proofs.run.run_words.Goals as goal
 

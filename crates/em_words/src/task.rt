@@ -1,10 +1,9 @@
 //! How scripts are answered.
 ghost use Rattle.std.specs.Prelude.{◌≡◌, IfOk};
-ghost use Rattle.ematch_cli.specs.Words.{task_asked, task_of};
+ghost use Rattle.em_words.specs.Task.{task_asked, task_of};
 
-use em_words::{Job, WordsFault, read_words};
-use graph_terms::Memory;
-use std::alloc::Global;
+use crate::{Job, WordsFault, read_words};
+use std::alloc::{AllocError, Global};
 
 /// How a script is answered: what `check-sat` is answered by.
 #[derive(Clone, Copy, Debug, PartialEq, Eq)]
@@ -23,13 +22,14 @@ fn task_of(job: Job) -> Option<Task>
     }
 }
 
-/// The task that the words behind the program's name ask for, without workers, where it is built.
-pub(crate) fn task_asked(alloc: Global, words: &[String]) -> Result<Option<Task>, Memory>
+/// The task that the words behind the program's name ask for, where they are of the form, ask for no workers, and the
+/// task is built. It fails only for want of memory.
+pub fn task_asked(alloc: Global, words: &[String]) -> Result<Option<Task>, AllocError>
     ensures { IfOk result (λ task. task ≡ task_asked words.now) }
 {
     match read_words(alloc, words) {
         Ok(asked) if asked.workers == 0 => Ok(task_of(asked.job)),
         Ok(_) | Err(WordsFault::Refused) => Ok(None),
-        Err(WordsFault::Memory) => Err(Memory),
+        Err(WordsFault::Memory) => Err(AllocError),
     }
 }
