@@ -27,23 +27,23 @@ StopsTerm rows limit unchanged refused row NodesFull = ⊥
 StopsTerm rows limit unchanged refused row Memory = unchanged ⊎ refused
 
 -- the next row was entered, and the terms grew by what it adds
-abbrev pub RowGrows : (List TermRow → Type 0) → Formula → List TermRow → ℕ → List ℕ → ℕ → Type 0
-RowGrows grown formula rows limit terms term = (more : List TermRow) × grown more ×
-    PutsNext (BecomesRow formula terms (length terms)) rows limit more term
+abbrev pub RowGrows : (List TermRow → Type 0) → Formula → List ℕ → List TermRow → ℕ → List ℕ → ℕ → Type 0
+RowGrows grown formula tuple rows limit terms term = (more : List TermRow) × grown more ×
+    PutsNext (BecomesRow formula tuple rows terms (length terms)) rows limit more term
 
 -- the next row was not entered
-abbrev pub StopsRow : Type 0 → Type 0 → Formula → List TermRow → ℕ → List ℕ → EnterFault → Type 0
-StopsRow unchanged refused formula rows limit terms TermsFull = unchanged ×
-    IsFullFor (BecomesRow formula terms (length terms)) rows limit
-StopsRow unchanged refused formula rows limit terms NodesFull = ⊥
-StopsRow unchanged refused formula rows limit terms Memory = unchanged ⊎ refused
+abbrev pub StopsRow : Type 0 → Type 0 → Formula → List ℕ → List TermRow → ℕ → List ℕ → EnterFault → Type 0
+StopsRow unchanged refused formula tuple rows limit terms TermsFull = unchanged ×
+    IsFullFor (BecomesRow formula tuple rows terms (length terms)) rows limit
+StopsRow unchanged refused formula tuple rows limit terms NodesFull = ⊥
+StopsRow unchanged refused formula tuple rows limit terms Memory = unchanged ⊎ refused
 
 -- not all rows were entered
-abbrev pub StopsRows : (List TermRow → Type 0) → (List TermRow → Type 0) → Formula → List TermRow → ℕ → EnterFault →
-    Type 0
-StopsRows grown refused formula rows limit TermsFull = FillsTerms grown formula rows limit
-StopsRows grown refused formula rows limit NodesFull = ⊥
-StopsRows grown refused formula rows limit Memory = LacksMemory grown refused formula rows limit
+abbrev pub StopsRows : (List TermRow → Type 0) → (List TermRow → Type 0) → Formula → List ℕ → List TermRow → ℕ →
+    EnterFault → Type 0
+StopsRows grown refused formula tuple rows limit TermsFull = FillsTerms grown formula tuple rows limit
+StopsRows grown refused formula tuple rows limit NodesFull = ⊥
+StopsRows grown refused formula tuple rows limit Memory = LacksMemory grown refused formula tuple rows limit
 
 -- a reached forall was put last under its number, and another left the table
 abbrev pub ForallGrows : Formula → ℕ → Bool → Formulas → Formulas → ℕ → Type 0

@@ -1,5 +1,6 @@
 pub mod InOrder
 pub mod Node
+pub mod Body
 pub mod Formulas
 pub mod TableInside
 pub mod Marks
