@@ -37,8 +37,8 @@ pub record GainsTerms (formula : Formula) (before after : GraphState) : Type 0 w
 -- the formula was not asserted: there was no room for its next term, or none for its next node once the graph had
 -- gained all its terms, or memory was refused; but for its first terms all is as before
 abbrev pub StopsAssert : Formula → Assertions → Assertions → EnterFault → Type 0
-StopsAssert formula before after TermsFull = FillsTerms (λ more. after.graph ≡ with_terms before.graph more) formula []
-    (terms_of before.graph.standing) before.graph.limit × KeepsFormulas before after
-StopsAssert formula before after NodesFull = LacksNodes (λ more. after.graph ≡ with_terms before.graph more) formula []
-    (terms_of before.graph.standing) before.graph.limit before.formulas × KeepsFormulas before after
+StopsAssert formula before after TermsFull = FillsTerms (λ more. after.graph ≡ with_terms before.graph more) formula
+    [] (terms_of before.graph.standing) before.graph.limit × KeepsFormulas before after
+StopsAssert formula before after NodesFull = LacksNodes (λ more. after.graph ≡ with_terms before.graph more) formula
+    [] (terms_of before.graph.standing) before.graph.limit before.formulas × KeepsFormulas before after
 StopsAssert formula before after Memory = GainsTerms formula before.graph after.graph × KeepsFormulas before after

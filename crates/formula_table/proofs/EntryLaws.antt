@@ -1,5 +1,5 @@
 -- A formula is entered in one way.
-use Rattle.std.proofs.Common.{◌≡◌, ◌≢◌, ℕ, ◌<◌, ◌↔◌, min, max, List, [], ◌∷◌, ◌++◌, length}
+use Rattle.std.proofs.Common.{◌≡◌, ◌≢◌, ℕ, ◌+◌, ◌<◌, ◌↔◌, min, max, List, [], ◌∷◌, ◌++◌, length}
 use Rattle.std.proofs.Common.{map, slice_get, Some, All, Contains, refl, sym, ap, ap₂, subst, ◌∙◌, ⊎_elim, arith}
 use Rattle.std.specs.Prelude.{slice_index}
 use Rattle.std.proofs.lemmas.Bool.{cases_lt}
@@ -30,6 +30,7 @@ use Rattle.formula_table.specs.declared.enter_fault.EnterFault.TheVariants.{Term
 use Rattle.formula_table.specs.Formulas.{Formulas, IsFormulaTable}
 use Rattle.formula_table.specs.InOrder.{AreInOrder}
 use Rattle.formula_table.proofs.BecomesLaws.{row_becomes, node_becomes, forall_stands}
+use Rattle.formula_table.proofs.ForallLaws.{one_forall}
 use Rattle.formula_table.proofs.InOrderLaws.{one_in_order, full_stops}
 use Rattle.formula_table.specs.Entry.{BecomesRow, BecomesNode, ReachesForall, RowsGrow, ForallsGrow}
 use Rattle.formula_table.specs.Entry.{NodesGrow, FillsTerms, FillsNodes, Enters, LacksNodes}
@@ -146,11 +147,15 @@ module _ (formula : Formula) (tuple : List ℕ) (is : IsFormulaOver (length tupl
     both_say : (k index : ℕ) → slice_get one.enters.reached k ≡ Some index → index < length formula.foralls →
         (slice_index numbers index ≡ slice_index others index) × (slice_get added k ≡ slice_get more k)
     both_say k index thing within =
-        let forall = element_at formula.foralls index within in
-        let first = one.enters.each k index forall.0 thing forall.1 in
-        let second = other.enters.each k index forall.0 (ap (λ xs. slice_get xs k) (sym same_reached) ∙ thing)
-        forall.1 in
-        (first.0 ∙ sym second.0, first.1 ∙ sym second.1)
+        let drafted = element_at formula.foralls index within in
+        let place = slice_get_within one.enters.reached k index thing in
+        let forall = element_at added k (omega (arith, place, one.enters.count)) in
+        let also = element_at more k (omega (arith, place, other.enters.count, ap length same_reached)) in
+        let first = one.enters.each k index drafted.0 forall.0 thing drafted.1 forall.1 in
+        let second = other.enters.each k index drafted.0 also.0 (ap (λ xs. slice_get xs k) (sym same_reached) ∙ thing)
+        drafted.1 also.1 in
+        let same = one_forall formula (length old + k) drafted.0 forall.0 also.0 first.1 second.1 in
+        (first.0 ∙ sym second.0, forall.1 ∙ ap Some same ∙ sym also.1)
 
     pub one_foralls : (added ≡ more) × ((index : ℕ) → ReachesForall formula index →
         slice_index numbers index ≡ slice_index others index)

@@ -26,12 +26,12 @@ use Rattle.formula_table.specs.declared.table_forall.TableForall.{TableForall}
 use Rattle.formula_table.specs.Node.{terms_in}
 use Rattle.formula_table.specs.Formulas.{Formulas, IsFormulaTable, IsForallOf, FitsTable, NodesStand, with_foralls}
 use Rattle.formula_table.proofs.FormulaLaws.{append_cases, IsFormulaTable-push, IsFormulaTable-foralls}
-use Rattle.formula_table.proofs.ForallLaws.{IsForallOf-table_forall}
+use Rattle.formula_table.proofs.ForallLaws.{becomes_forall}
 use Rattle.formula_table.proofs.BecomesLaws.{row_becomes, node_becomes, forall_stands}
 use Rattle.formula_table.specs.InOrder.{AreInOrder, StandsNowhere}
 use Rattle.formula_table.proofs.InOrderLaws.{PutLast, none_added, last_step}
 use Rattle.formula_table.specs.Entry.{BecomesRow, BecomesNode, ReachesForall, RowsGrow, ForallsGrow, TableGrows}
-use Rattle.formula_table.specs.Entry.{FillsTerms, LacksMemory, LacksNodes, Enters, table_forall, entered_node}
+use Rattle.formula_table.specs.Entry.{FillsTerms, LacksMemory, LacksNodes, Enters, entered_node}
 
 -- the node that a reached node becomes fits a table in which its parts and its forall stand
 pub fits_entered : (formula : Formula) (terms foralls numbers : List ℕ) (table : Formulas) (n : ℕ)
@@ -98,11 +98,9 @@ module _ (formula : Formula) (tuple : List ℕ) (is : IsFormulaOver (length tupl
         slice_get grow.enters.reached k ≡ Some index → slice_get formula.foralls index ≡ Some drafted →
         slice_get added k ≡ Some forall → IsForallOf (length old.foralls + k) forall
     forall_fits k index drafted forall thing stands at =
-        let fits = is.lawful.foralls_fit index drafted stands in
-        let has = grow.enters.each k index drafted thing stands in
-        subst (IsForallOf (length old.foralls + k)) (same_Some (table_forall (length old.foralls + k) drafted) forall
-        (sym has.1 ∙ at)) (IsForallOf-table_forall (length old.foralls + k) drafted fits.few_variables
-        fits.triggers_fit)
+        let has = grow.enters.each k index drafted forall thing stands at in
+        becomes_forall formula is.lawful (length old.foralls + k) drafted forall
+        (is.lawful.foralls_fit index drafted stands) has.1
 
     -- foralls that were entered leave a table
     pub foralls_table : IsFormulaTable old → IsFormulaTable (with_foralls added old)
@@ -121,8 +119,9 @@ module _ (formula : Formula) (tuple : List ℕ) (is : IsFormulaOver (length tupl
         let place = place_from_Contains grow.enters.reached index
         ((grow.enters.all.exact index).1 (omega (arith, stands, grow.all), reach)) in
         let drafted = element_at formula.foralls index stands in
-        let has = grow.enters.each place.0 index drafted.0 place.1 drafted.1 in
         let within = slice_get_within grow.enters.reached place.0 index place.1 in
+        let forall = element_at added place.0 (omega (arith, within, grow.enters.count)) in
+        let has = grow.enters.each place.0 index drafted.0 forall.0 place.1 drafted.1 forall.1 in
         omega (arith, has.0, within, grow.enters.count, length-append old.foralls added)
 
   module _ (terms foralls numbers : List ℕ) (old : Formulas) (table : IsFormulaTable old) (stand : (index : ℕ) →

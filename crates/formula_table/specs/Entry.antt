@@ -18,14 +18,15 @@ use Rattle.formula_table.specs.declared.table_forall.TableForall.{TableForall}
 use Rattle.formula_table.specs.declared.enter_fault.EnterFault.{EnterFault}
 use Rattle.formula_table.specs.declared.enter_fault.EnterFault.TheVariants.{TermsFull, NodesFull, Memory}
 use Rattle.formula_table.specs.Formulas.{Formulas}
+use Rattle.formula_table.specs.Body.{IsBodyOf}
 use Rattle.formula_table.specs.InOrder.{AreInOrder, IsFullFor}
 
 -- the row over the terms that its arguments became
 abbrev pub entered_row : List ℕ → ℕ → List ℕ → TermRow
 entered_row terms symbol args = term_row symbol (map (slice_index terms) args)
 
--- the row with this number is reached, and becomes this row of a table: a variable that of its term in the tuple, which
--- stands, and an application the one over terms
+-- the row with this number is reached, and becomes this row of a table: a variable that of its term in the tuple,
+-- which stands, and an application the one over terms
 pub data BecomesRow (formula : Formula) (tuple : List ℕ) (rows : List TermRow) (terms : List ℕ) (n : ℕ) : TermRow →
     Type 0 where
   variable : {index term : ℕ} {row : TermRow} → ReachesRow formula.rows formula.nodes formula.root n →
@@ -50,9 +51,13 @@ abbrev pub numbered : ℕ → ℕ → List Trigger → List Trigger
 numbered forall place [] = []
 numbered forall place (trigger ∷ triggers) = placed forall place trigger ∷ numbered forall (place + 1) triggers
 
--- a forall of a formula under its number in the table
-abbrev pub table_forall : ℕ → DraftForall → TableForall
-table_forall number new = record { variables = new.variables; triggers = numbered number 0 new.triggers }
+-- what a forall of a formula is under its number in the table: its triggers have the number and their places, and its
+-- body has what is reached of the formula's
+pub record BecomesForall (formula : Formula) (number : ℕ) (drafted : DraftForall) (forall : TableForall) : Type 0
+  where
+    pub variables_are : forall.variables ≡ drafted.variables
+    pub triggers_are : forall.triggers ≡ numbered number 0 drafted.triggers
+    pub body_is : IsBodyOf formula.rows formula.nodes drafted.body forall.body
 
 -- a reached node is the forall with this index
 pub record ReachesForall (formula : Formula) (index : ℕ) : Type 0 where
@@ -65,9 +70,9 @@ pub record EntersForalls (formula : Formula) (old added : List TableForall) (num
   pub reached : List ℕ
   pub all : AreAll (λ index. (index < length numbers) × ReachesForall formula index) reached
   pub count : length reached ≡ length added
-  pub each : (k index : ℕ) (forall : DraftForall) → slice_get reached k ≡ Some index →
-      slice_get formula.foralls index ≡ Some forall → (slice_index numbers index ≡ length old + k) ×
-      (slice_get added k ≡ Some (table_forall (length old + k) forall))
+  pub each : (k index : ℕ) (drafted : DraftForall) (forall : TableForall) → slice_get reached k ≡ Some index →
+      slice_get formula.foralls index ≡ Some drafted → slice_get added k ≡ Some forall →
+      (slice_index numbers index ≡ length old + k) × BecomesForall formula (length old + k) drafted forall
 
 -- the node over terms, numbers of foralls and earlier nodes; the terms of an equation in ascending order
 abbrev pub entered_node : List ℕ → List ℕ → List ℕ → DraftNode → Node

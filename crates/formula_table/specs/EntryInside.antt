@@ -13,7 +13,7 @@ use Rattle.formula_table.specs.declared.enter_fault.EnterFault.TheVariants.{Term
 use Rattle.formula_table.specs.Formulas.{Formulas, with_foralls}
 use Rattle.formula_table.specs.InOrder.{IsFullFor, PutsNext}
 use Rattle.formula_table.specs.Entry.{BecomesRow, BecomesNode, ReachesForall, FillsTerms, LacksMemory}
-use Rattle.formula_table.specs.Entry.{FillsNodes, ForallsGrow, NodesGrow, table_forall}
+use Rattle.formula_table.specs.Entry.{FillsNodes, ForallsGrow, NodesGrow, BecomesForall}
 
 -- each number of a reached row is that of a term
 abbrev pub NumbersStand : Formula → ℕ → List ℕ → Type 0
@@ -48,9 +48,9 @@ StopsRows grown refused formula tuple rows limit Memory = LacksMemory grown refu
 -- a reached forall was put last under its number, and another left the table
 abbrev pub ForallGrows : Formula → ℕ → Bool → Formulas → Formulas → ℕ → Type 0
 ForallGrows formula index false old new number = new ≡ old
-ForallGrows formula index true old new number = (forall : DraftForall) ×
-    (slice_get formula.foralls index ≡ Some forall) × (new
-    ≡ with_foralls (table_forall (length old.foralls) forall ∷ []) old) × (number ≡ length old.foralls)
+ForallGrows formula index true old new number = (drafted : DraftForall) × (forall : TableForall) ×
+    (slice_get formula.foralls index ≡ Some drafted) × BecomesForall formula (length old.foralls) drafted forall ×
+    (new ≡ with_foralls (forall ∷ []) old) × (number ≡ length old.foralls)
 
 -- the table grew by the foralls of the formula, with these numbers
 pub record ForallsEntered (formula : Formula) (old new : Formulas) (numbers : List ℕ) : Type 0 where
