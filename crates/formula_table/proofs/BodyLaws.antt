@@ -1,15 +1,14 @@
 -- The body of a forall is one formula, over the variables of the forall.
-use Rattle.std.proofs.Common.{◌≡◌, ℕ, zero, suc, ◌+◌, ◌<◌, ◌≤◌, List, [], ◌∷◌, map, length, get_or, slice_get, Some}
+use Rattle.std.proofs.Common.{◌≡◌, ℕ, suc, ◌<◌, List, [], ◌∷◌, map, length, get_or, slice_get, Some}
 use Rattle.std.proofs.Common.{All, AllPairs, Bool, Contains, refl, sym, ap, ap₂, subst, ◌∙◌, ⊎_elim, arith}
 use Rattle.std.specs.Prelude.{slice_index}
 use Rattle.std.proofs.lemmas.Bool.{cases_lt}
 use Rattle.std.proofs.lemmas.List.{same_lists, length-map}
 use Rattle.std.proofs.lemmas.List.Elements.{All-nil, All-cons, All-contains, All-weaker, All-contains_itself}
-use Rattle.std.proofs.lemmas.List.Elements.{Contains-get_or, Contains-append_right}
+use Rattle.std.proofs.lemmas.List.Elements.{Contains-get_or}
 use Rattle.std.proofs.lemmas.Option.{none-some, same_Some, slice_get_within, get_or_from_slice_get}
-use Rattle.graph_meaning.specs.Questions.{AreAll}
 use Rattle.graph_meaning.proofs.OneListLaws.{one_list}
-use Rattle.graph_terms.proofs.ListLaws.{element_at, place_from_Contains, Contains-slice_get}
+use Rattle.graph_terms.proofs.ListLaws.{element_at}
 use Rattle.formula_draft.specs.declared.draft_row.DraftRow.{DraftRow}
 use Rattle.formula_draft.specs.declared.draft_row.DraftRow.TheVariants.{Var, App}
 use Rattle.formula_draft.specs.declared.draft_node.DraftNode.{DraftNode}
@@ -18,7 +17,7 @@ use Rattle.formula_draft.specs.declared.draft_forall.DraftForall.{DraftForall}
 use Rattle.formula_draft.specs.DraftRow.{args_of}
 use Rattle.formula_draft.specs.DraftNode.{rows_of, parts_of, foralls_of}
 use Rattle.formula_draft.specs.Reach.{ReachesNode, ReachesRow}
-use Rattle.formula_draft.specs.Draft.{Formula, AreLawful, FitsRow, FitsNode, FitsForall}
+use Rattle.formula_draft.specs.Draft.{Formula, AreLawful, FitsRow, FitsNode}
 use Rattle.formula_table.specs.Body.{IsFormulaOver, IsBodyOf, KeepsRow, KeepsNode, renamed_row, renamed_node}
 
 -- the kind of a row, and of a node

@@ -1,12 +1,12 @@
 -- How the body of a forall is made.
-use Rattle.std.proofs.Common.{◌≡◌, ℕ, zero, suc, ◌+◌, ◌<◌, ◌≤◌, ◌⊎◌, Bool, true, false, List, [], ◌∷◌, ◌++◌, map, length, take, set, get_or, slice_get, Some, All, AllPairs, Contains, refl, sym, ap, ap₂, subst, ◌∙◌, ⊎_elim, arith, true≢false, length-set}
+use Rattle.std.proofs.Common.{◌≡◌, ℕ, zero, suc, ◌+◌, ◌<◌, ◌≤◌, Bool, true, false, List, [], ◌∷◌, ◌++◌, map, length, set, get_or, slice_get, Some, All, AllPairs, Contains, refl, sym, ap, ap₂, subst, ◌∙◌, ⊎_elim, arith, true≢false, length-set}
 use Rattle.std.specs.Prelude.{slice_index}
 use Rattle.std.proofs.lemmas.Bool.{cases_lt}
-use Rattle.std.proofs.lemmas.List.{length-append, length-take}
+use Rattle.std.proofs.lemmas.List.{length-append}
 use Rattle.std.proofs.lemmas.List.Elements.{All-nil, All-map, All-weaker, All-contains_itself, Contains-push, Contains-push_cases, Contains-append_left, Contains-append_right, Contains-get_or}
 use Rattle.std.proofs.lemmas.List.Quantifiers.{all_pairs_push}
 use Rattle.std.proofs.lemmas.Option.{none-some, same_Some, slice_get_within, slice_get-get_or, get_or_from_slice_get}
-use Rattle.graph_terms.proofs.ListLaws.{slice_get-append_left, slice_get-push, push_cases, element_at, place_from_Contains, Contains-slice_get}
+use Rattle.graph_terms.proofs.ListLaws.{slice_get-append_left, slice_get-push, element_at, place_from_Contains, Contains-slice_get}
 use Rattle.graph_meaning.specs.Questions.{AreAll}
 use Rattle.formula_draft.specs.declared.draft_row.DraftRow.{DraftRow}
 use Rattle.formula_draft.specs.declared.draft_row.DraftRow.TheVariants.{Var, App}
@@ -62,10 +62,13 @@ marked_next marks n false kept at so = record {
     rising = so.all.rising;
     exact = λ m. (
       λ c. let was = (so.all.exact m).0 c in (omega (arith, was.0), was.1),
-      λ p. (so.all.exact m).1 (⊎_elim
-          (λ earlier. earlier)
-          (λ not_earlier. let here : m ≡ n = omega (arith, p.0, not_earlier) in absurd (true≢false (same_Some true false (sym p.1 ∙ ap (slice_get marks) here ∙ at))))
-          (cases_lt m n), p.1),
+      λ p. (so.all.exact m).1 (
+        ⊎_elim
+            (λ earlier. earlier)
+            (λ not_earlier. let here : m ≡ n = omega (arith, p.0, not_earlier) in absurd (true≢false (same_Some true false (sym p.1 ∙ ap (slice_get marks) here ∙ at))))
+            (cases_lt m n),
+        p.1,
+      ),
     );
   };
   few = omega (arith, so.few);

@@ -9,7 +9,7 @@ use Rattle.std.proofs.lemmas.Option.{slice_get_within, get_or_from_slice_get}
 use Rattle.graph_terms.specs.declared.term_row.TermRow.{TermRow}
 use Rattle.graph_meaning.specs.Questions.{AreAll}
 use Rattle.graph_terms.specs.Terms.{term_row, IsTable}
-use Rattle.graph_terms.proofs.ListLaws.{element_at, place_from_Contains, Contains-slice_get}
+use Rattle.graph_terms.proofs.ListLaws.{slice_get-append_left, All-slice_get, element_at, place_from_Contains, Contains-slice_get}
 use Rattle.graph_meaning.proofs.OneListLaws.{one_list}
 use Rattle.formula_draft.specs.declared.draft_row.DraftRow.TheVariants.{Var, App}
 use Rattle.formula_draft.specs.declared.draft_node.DraftNode.{DraftNode}
@@ -31,7 +31,7 @@ use Rattle.formula_table.specs.Formulas.{Formulas, IsFormulaTable}
 use Rattle.formula_table.specs.InOrder.{AreInOrder}
 use Rattle.formula_table.proofs.BecomesLaws.{row_becomes, node_becomes, forall_stands}
 use Rattle.formula_table.proofs.ForallLaws.{one_forall}
-use Rattle.formula_table.proofs.InOrderLaws.{one_in_order, full_stops}
+use Rattle.formula_table.proofs.InOrderLaws.{one_in_order, full_stops, stand_once}
 use Rattle.formula_table.specs.Entry.{BecomesRow, BecomesNode, ReachesForall, RowsGrow, ForallsGrow}
 use Rattle.formula_table.specs.Entry.{NodesGrow, FillsTerms, FillsNodes, Enters, LacksNodes}
 use Rattle.formula_table.specs.Entry.{StopsEntry, entered_row, entered_node}
@@ -390,3 +390,19 @@ enters_once-into grow later also formula tuple is rows stand table limit old is_
     let one = enters_once (λ more. later ≡ grow more) (λ more. also ≡ grow more) formula tuple is rows stand table limit old
     is_table new other number other_number first second in
     (one.grew ∙ sym one.also, one.table_is, one.number_is)
+
+-- the term of a variable is the one of the tuple
+pub variable_number : (grown : List TermRow → Type 0) (formula : Formula) (tuple : List ℕ) →
+    IsFormulaOver (length tuple) formula → (rows : List TermRow) → IsTable rows →
+    All (λ term. term < length rows) tuple → (limit : ℕ) (terms : List ℕ) →
+    RowsGrow grown formula tuple rows limit terms → (n index : ℕ) →
+    ReachesRow formula.rows formula.nodes formula.root n → slice_get formula.rows n ≡ Some (Var index) →
+    slice_get tuple index ≡ Some (slice_index terms n)
+variable_number grown formula tuple is rows table stand limit terms grow n index reach at =
+    let term = element_at tuple index (is.below n index reach at) in
+    let row = element_at rows term.0 (All-slice_get (λ t. t < length rows) tuple index term.0 stand term.1) in
+    let within = row_stands formula.rows formula.nodes formula.foralls is.lawful formula.root is.root_stands reach in
+    let here = grow.enters.stand n row.0 (omega (arith, within, grow.all)) (variable reach at term.1 row.1) in
+    let same = stand_once (BecomesRow formula tuple rows terms) rows limit terms table.once (length terms) grow.added
+    grow.enters term.0 (slice_index terms n) row.0 (slice_get-append_left rows grow.added term.0 row.0 row.1) here in
+    term.1 ∙ ap Some same

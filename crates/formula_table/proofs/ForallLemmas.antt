@@ -7,7 +7,7 @@ use Rattle.std.proofs.lemmas.List.Elements.{Contains-push, Contains-push_cases, 
 use Rattle.std.proofs.lemmas.List.Quantifiers.{all_pairs_push}
 use Rattle.std.proofs.lemmas.Option.{none-some, same_Some, slice_get_within, slice_get-get_or}
 use Rattle.graph_trigger.specs.declared.trigger.Trigger.{Trigger}
-use Rattle.graph_terms.proofs.ListLaws.{element_at, slice_get-append_left, slice_get-push, push_cases, place_from_Contains, Contains-slice_get}
+use Rattle.graph_terms.proofs.ListLaws.{element_at, push_cases, place_from_Contains, Contains-slice_get}
 use Rattle.formula_draft.specs.declared.draft_forall.DraftForall.{DraftForall}
 use Rattle.formula_draft.specs.Draft.{Formula}
 use Rattle.formula_table.specs.declared.table_forall.TableForall.{TableForall}
@@ -123,8 +123,8 @@ module _ (formula : Formula) (old now : Formulas) (numbers : List ℕ) (number n
               let count : length now.foralls ≡ length old.foralls + k = omega (arith, place, new_item.0) in (
                 ap (slice_index (numbers ++ number ∷ [])) new_thing.1 ∙ last_number ∙ number_is ∙ count,
                 subst (λ (m : ℕ). BecomesForall formula m found forall) count
-                (subst (λ (d : DraftForall). BecomesForall formula (length now.foralls) d forall) (sym same)
-                (subst (BecomesForall formula (length now.foralls) drafted) (sym new_item.1) becomes)),
+                    (subst (λ (d : DraftForall). BecomesForall formula (length now.foralls) d forall) (sym same)
+                    (subst (BecomesForall formula (length now.foralls) drafted) (sym new_item.1) becomes)),
               ))
               (push_cases so.added new k forall item))
               (push_cases so.enters.reached n k index thing);

@@ -4,12 +4,12 @@ use Rattle.std.proofs.Common.{Some, All, Contains, refl, sym, ap, subst, ◌∙�
 use Rattle.std.specs.Prelude.{slice_index}
 use Rattle.std.proofs.lemmas.List.{length-append, length-map}
 use Rattle.std.proofs.lemmas.List.Elements.{All-nil, All-cons, All-map, All-weaker, All-contains, All-contains_itself}
-use Rattle.std.proofs.lemmas.Option.{same_Some, slice_get_within, get_or_from_slice_get}
+use Rattle.std.proofs.lemmas.Option.{slice_get_within, get_or_from_slice_get}
 use Rattle.graph_terms.specs.declared.term_row.TermRow.{TermRow}
 use Rattle.graph_terms.specs.Terms.{IsTable, most_args}
 use Rattle.graph_terms.proofs.TableLaws.{IsTable-push}
 use Rattle.graph_terms.proofs.ListLaws.{slice_get-append_left, element_at, place_from_Contains, Contains-slice_get}
-use Rattle.formula_draft.specs.declared.draft_row.DraftRow.TheVariants.{Var, App}
+use Rattle.formula_draft.specs.declared.draft_row.DraftRow.TheVariants.{App}
 use Rattle.formula_draft.specs.declared.draft_node.DraftNode.{DraftNode}
 use Rattle.formula_draft.specs.declared.draft_forall.DraftForall.{DraftForall}
 use Rattle.formula_draft.specs.declared.draft_node.DraftNode.TheVariants.{Equal, Atom, And, Or, Forall}

@@ -1,4 +1,4 @@
-use Rattle.std.proofs.Common.{◌<◌, ◌+◌, ℕ, List, false, length, get_or, sym, subst, arith}
+use Rattle.std.proofs.Common.{◌<◌, ◌+◌, false, length, get_or, sym, subst, arith}
 use Rattle.std.proofs.lemmas.Option.{slice_get-get_or}
 use Rattle.formula_table.proofs.BodyLemmas.{AreMarkedBelow, marked_next, marked_all}
 use Rattle.formula_table.proofs.body.marked.Goals as goal

@@ -1,5 +1,4 @@
 use Rattle.std.proofs.Common.{ℕ, length, subst}
-use Rattle.formula_table.specs.Formulas.{IsForallOf}
 use Rattle.formula_table.specs.Entry.{BecomesForall}
 use Rattle.formula_table.proofs.ForallLaws.{becomes_forall}
 use Rattle.formula_table.proofs.enter_foralls.enter_forall.Goals as goal

@@ -1,4 +1,4 @@
-use Rattle.std.proofs.Common.{◌≡◌, ◌<◌, [], ℕ, Bool, List, length, All, refl, sym, subst, ◌∙◌, arith}
+use Rattle.std.proofs.Common.{◌<◌, [], ℕ, Bool, List, length, All, refl, sym, subst, ◌∙◌, arith}
 use Rattle.std.specs.Prelude.{slice_index}
 use Rattle.graph_meaning.specs.Questions.{AreAll}
 use Rattle.graph_terms.proofs.ListLaws.{get_or-any}
