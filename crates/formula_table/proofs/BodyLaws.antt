@@ -1,5 +1,5 @@
 -- The body of a forall is one formula, over the variables of the forall.
-use Rattle.std.proofs.Common.{◌≡◌, ℕ, suc, ◌<◌, List, [], ◌∷◌, map, length, get_or, slice_get, Some}
+use Rattle.std.proofs.Common.{◌≡◌, ℕ, zero, suc, ◌<◌, List, [], ◌∷◌, map, length, get_or, slice_get, Some}
 use Rattle.std.proofs.Common.{All, AllPairs, Bool, Contains, refl, sym, ap, ap₂, subst, ◌∙◌, ⊎_elim, arith}
 use Rattle.std.specs.Prelude.{slice_index}
 use Rattle.std.proofs.lemmas.Bool.{cases_lt}
@@ -8,7 +8,7 @@ use Rattle.std.proofs.lemmas.List.Elements.{All-nil, All-cons, All-contains, All
 use Rattle.std.proofs.lemmas.List.Elements.{Contains-get_or}
 use Rattle.std.proofs.lemmas.Option.{none-some, same_Some, slice_get_within, get_or_from_slice_get}
 use Rattle.graph_meaning.proofs.OneListLaws.{one_list}
-use Rattle.graph_terms.proofs.ListLaws.{element_at}
+use Rattle.graph_terms.proofs.ListLaws.{element_at, place_from_Contains, Contains-slice_get}
 use Rattle.formula_draft.specs.declared.draft_row.DraftRow.{DraftRow}
 use Rattle.formula_draft.specs.declared.draft_row.DraftRow.TheVariants.{Var, App}
 use Rattle.formula_draft.specs.declared.draft_node.DraftNode.{DraftNode}
@@ -17,8 +17,10 @@ use Rattle.formula_draft.specs.declared.draft_forall.DraftForall.{DraftForall}
 use Rattle.formula_draft.specs.DraftRow.{args_of}
 use Rattle.formula_draft.specs.DraftNode.{rows_of, parts_of, foralls_of}
 use Rattle.formula_draft.specs.Reach.{ReachesNode, ReachesRow}
+use Rattle.formula_draft.specs.Reach.ReachesNode.{itself, part_of_it}
+use Rattle.formula_draft.specs.Reach.ReachesRow.{named, argument}
 use Rattle.formula_draft.specs.Draft.{Formula, AreLawful, FitsRow, FitsNode}
-use Rattle.formula_table.specs.Body.{IsFormulaOver, IsBodyOf, KeepsRow, KeepsNode, renamed_row, renamed_node}
+use Rattle.formula_table.specs.Body.{IsFormulaOver, IsCompact, IsBodyOf, KeepsRow, KeepsNode, renamed_row, renamed_node}
 
 -- the kind of a row, and of a node
 abbrev row_kind : DraftRow → ℕ
@@ -284,3 +286,112 @@ module _ (rows : List DraftRow) (nodes : List DraftNode) (start : ℕ) where
           (Contains-get_or is.kept_rows row 0 (row_within row (Var index) at)))
           (is.each_row row (Var index) at).was;
     }
+
+-- what a mapped list has is the image of an element
+in_mapped : (f : ℕ → ℕ) (xs : List ℕ) (i y : ℕ) → slice_get (map f xs) i ≡ Some y → (x : ℕ) ×
+    (slice_get xs i ≡ Some x) × (f x ≡ y)
+in_mapped f [] i y at = absurd (none-some y at)
+in_mapped f (x ∷ xs) zero y at = (x, refl, same_Some (f x) y at)
+in_mapped f (x ∷ xs) (suc i) y at = in_mapped f xs i y at
+
+image_of : (f : ℕ → ℕ) (xs : List ℕ) (y : ℕ) → Contains (map f xs) y → (x : ℕ) × Contains xs x × (f x ≡ y)
+image_of f xs y c =
+    let place = place_from_Contains (map f xs) y c in
+    let image = in_mapped f xs place.0 y place.1 in
+    (image.0, Contains-slice_get xs place.0 image.0 image.1, image.2)
+
+rows_renamed : (f g : ℕ → ℕ) (node : DraftNode) → rows_of (renamed_node f g node) ≡ map f (rows_of node)
+rows_renamed f g (Equal positive left right) = refl
+rows_renamed f g (Atom positive row) = refl
+rows_renamed f g (And parts) = refl
+rows_renamed f g (Or parts) = refl
+rows_renamed f g (Forall index) = refl
+
+-- all of a body is reached from its root
+module _ (rows : List DraftRow) (nodes : List DraftNode) (start : ℕ) (body : Formula)
+    (is : IsBodyOf rows nodes start body) where
+  -- the place that a kept number has, where it is reached
+  record NodePlace (n : ℕ) : Type 0 where
+    place : ℕ
+    within : place < length is.kept_nodes
+    kept : slice_index is.kept_nodes place ≡ n
+    reached : ReachesNode body.nodes body.root place
+
+  record RowPlace (n : ℕ) : Type 0 where
+    place : ℕ
+    within : place < length is.kept_rows
+    kept : slice_index is.kept_rows place ≡ n
+    reached : ReachesRow body.rows body.nodes body.root place
+
+  node_place : {n : ℕ} → ReachesNode nodes start n → NodePlace n
+  node_place itself = record {
+    place = body.root;
+    within = slice_get_within is.kept_nodes body.root start is.root_kept;
+    kept = get_or_from_slice_get is.kept_nodes body.root start 0 is.root_kept;
+    reached = itself;
+  }
+  node_place (part_of_it {n = n} {part = part} {node = node} above at c) =
+      let up = node_place above in
+      let node_at = element_at body.nodes up.place (let within = up.within in omega (arith, within, is.node_count)) in
+      let keeps = is.each_node up.place node_at.0 node_at.1 in
+      let names = slice_index is.kept_rows in
+      let places = slice_index is.kept_nodes in
+      let same : node ≡ renamed_node names places node_at.0 = same_Some node (renamed_node names places node_at.0)
+      (sym at ∙ ap (slice_get nodes) (sym up.kept) ∙ keeps.was) in
+      let image = image_of places (parts_of node_at.0) part
+      (subst (λ (xs : List ℕ). Contains xs part) (ap parts_of same ∙ parts_renamed names places node_at.0) c) in
+      record {
+        place = image.0;
+        within = All-contains (λ p. p < length is.kept_nodes) (parts_of node_at.0) image.0 keeps.parts_kept image.1;
+        kept = image.2;
+        reached = part_of_it up.reached node_at.1 image.1;
+      }
+
+  row_place : {n : ℕ} → ReachesRow rows nodes start n → RowPlace n
+  row_place (named {n = n} {row = row} {node = node} above at c) =
+      let up = node_place above in
+      let node_at = element_at body.nodes up.place (let within = up.within in omega (arith, within, is.node_count)) in
+      let keeps = is.each_node up.place node_at.0 node_at.1 in
+      let names = slice_index is.kept_rows in
+      let places = slice_index is.kept_nodes in
+      let same : node ≡ renamed_node names places node_at.0 = same_Some node (renamed_node names places node_at.0)
+      (sym at ∙ ap (slice_get nodes) (sym up.kept) ∙ keeps.was) in
+      let image = image_of names (rows_of node_at.0) row
+      (subst (λ (xs : List ℕ). Contains xs row) (ap rows_of same ∙ rows_renamed names places node_at.0) c) in
+      record {
+        place = image.0;
+        within = All-contains (λ p. p < length is.kept_rows) (rows_of node_at.0) image.0 keeps.rows_kept image.1;
+        kept = image.2;
+        reached = named up.reached node_at.1 image.1;
+      }
+  row_place (argument {n = n} {arg = arg} {row = row} above at c) =
+      let up = row_place above in
+      let row_at = element_at body.rows up.place (let within = up.within in omega (arith, within, is.row_count)) in
+      let keeps = is.each_row up.place row_at.0 row_at.1 in
+      let names = slice_index is.kept_rows in
+      let same : row ≡ renamed_row names row_at.0 = same_Some row (renamed_row names row_at.0)
+      (sym at ∙ ap (slice_get rows) (sym up.kept) ∙ keeps.was) in
+      let image = image_of names (args_of row_at.0) arg
+      (subst (λ (xs : List ℕ). Contains xs arg) (ap args_of same ∙ args_renamed names row_at.0) c) in
+      record {
+        place = image.0;
+        within = All-contains (λ p. p < length is.kept_rows) (args_of row_at.0) image.0 keeps.args_kept image.1;
+        kept = image.2;
+        reached = argument up.reached row_at.1 image.1;
+      }
+
+  pub body_compact : IsCompact body
+  body_compact = record {
+    rows_reached = λ n within.
+        let inside : n < length is.kept_rows = omega (arith, within, is.row_count) in
+        let place = row_place ((is.all_rows.exact (slice_index is.kept_rows n)).0
+        (Contains-get_or is.kept_rows n 0 inside)) in
+        subst (ReachesRow body.rows body.nodes body.root)
+        (one_place is.kept_rows is.all_rows.rising place.place n place.within inside place.kept) place.reached;
+    nodes_reached = λ n within.
+        let inside : n < length is.kept_nodes = omega (arith, within, is.node_count) in
+        let place = node_place ((is.all_nodes.exact (slice_index is.kept_nodes n)).0
+        (Contains-get_or is.kept_nodes n 0 inside)) in
+        subst (ReachesNode body.nodes body.root)
+        (one_place is.kept_nodes is.all_nodes.rising place.place n place.within inside place.kept) place.reached;
+  }

@@ -10,7 +10,7 @@ use Rattle.formula_draft.specs.declared.draft_forall.DraftForall.{DraftForall}
 use Rattle.formula_draft.specs.Draft.{Formula, AreLawful, FitsForall, FitsTrigger}
 use Rattle.formula_table.specs.declared.table_forall.TableForall.{TableForall}
 use Rattle.formula_table.specs.Body.{IsFormulaOver}
-use Rattle.formula_table.proofs.BodyLaws.{body_over, one_body}
+use Rattle.formula_table.proofs.BodyLaws.{body_over, body_compact, one_body}
 use Rattle.formula_table.specs.Formulas.{IsForallOf, IsTriggerOf}
 use Rattle.formula_table.specs.Entry.{placed, numbered, BecomesForall}
 
@@ -68,6 +68,7 @@ becomes_forall formula lawful number drafted forall fits becomes = record {
       (body_over formula.rows formula.nodes drafted.body formula.foralls lawful drafted.variables fits.no_forall
       fits.below forall.body becomes.body_is);
   no_foralls = becomes.body_is.no_foralls;
+  compact = body_compact formula.rows formula.nodes drafted.body forall.body becomes.body_is;
 }
 
 -- and in one way

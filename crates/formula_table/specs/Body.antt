@@ -18,6 +18,11 @@ pub record IsFormulaOver (variables : ℕ) (formula : Formula) : Type 0 where
   pub below : (row index : ℕ) → ReachesRow formula.rows formula.nodes formula.root row →
       slice_get formula.rows row ≡ Some (Var index) → index < variables
 
+-- each row and each node is reached from the root
+pub record IsCompact (formula : Formula) : Type 0 where
+  pub rows_reached : (n : ℕ) → n < length formula.rows → ReachesRow formula.rows formula.nodes formula.root n
+  pub nodes_reached : (n : ℕ) → n < length formula.nodes → ReachesNode formula.nodes formula.root n
+
 -- the row with other numbers for the rows that it names
 abbrev pub renamed_row : (ℕ → ℕ) → DraftRow → DraftRow
 renamed_row row_name (Var index) = Var index
