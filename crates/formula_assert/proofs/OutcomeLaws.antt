@@ -1,7 +1,8 @@
 -- What stands stays made of tables, and over tables a formula is asserted in one way, and refused in one way but for
 -- want of memory.
-use Rattle.std.proofs.Common.{◌≡◌, ◌≢◌, ℕ, ◌++◌, List, [], ◌∷◌, refl, sym, ap, ap₂, subst, ◌∙◌, append-nil, arith}
+use Rattle.std.proofs.Common.{◌≡◌, ◌≢◌, ℕ, ◌<◌, ◌++◌, List, [], ◌∷◌, length, All, refl, sym, ap, ap₂, subst, ◌∙◌, append-nil, arith}
 use Rattle.std.specs.List.{before_last}
+use Rattle.std.proofs.lemmas.List.Elements.{All-nil}
 use Rattle.std.proofs.lemmas.Option.{none-some}
 use Rattle.graph_meaning.specs.declared.done.Done.{Done}
 use Rattle.graph_terms.specs.declared.term_row.TermRow.{TermRow}
@@ -19,6 +20,7 @@ use Rattle.formula_table.specs.declared.enter_fault.EnterFault.TheVariants.{Term
 use Rattle.formula_table.proofs.EntryLaws.{enters_once-into, full_terms_once, full_terms_not_entered}
 use Rattle.formula_table.proofs.EntryLaws.{full_terms_not_lacking, lacking_nodes_once, lacking_nodes_not_entered}
 use Rattle.formula_table.specs.Formulas.{Formulas, IsFormulaTable, no_formulas}
+use Rattle.formula_table.proofs.BecomesLaws.{over_none}
 use Rattle.formula_table.proofs.StandLaws.{stands_after}
 use Rattle.match_graph.specs.GraphTerms.{adding, with_terms}
 use Rattle.match_graph.specs.GraphTermsLaws.{terms-with_terms}
@@ -80,6 +82,10 @@ tables_restored now (level ∷ saved) are were = record { terms = were.0; formul
 pub tables_popped : (now : Assertions) → AreTables now → AreTables (popped now)
 tables_popped now are = tables_restored now now.saved are are.saved
 
+-- the terms of no tuple stand
+none_below : (graph : GraphState) → All (λ term. term < length (terms_of graph.standing)) []
+none_below graph = All-nil (λ term. term < length (terms_of graph.standing))
+
 -- terms that a graph gains come after what stood before the last level
 last-with_terms : (graph : GraphState) (rows : List TermRow) →
     before_last is_push (with_terms graph rows).standing ≡ before_last is_push graph.standing
@@ -94,8 +100,8 @@ pub tables_asserted : (formula : Formula) (before after : Assertions) → IsForm
 tables_asserted formula before after is are asserts =
     let added = asserts.enters.rows_grow.added in
     let grew : asserts.entered ≡ with_terms before.graph added = asserts.enters.rows_grow.grew in
-    let all = stands_after (λ more. asserts.entered ≡ with_terms before.graph more) formula is
-    (terms_of before.graph.standing) before.graph.limit before.formulas after.formulas asserts.root asserts.enters
+    let all = stands_after (λ more. asserts.entered ≡ with_terms before.graph more) formula [] (over_none formula is)
+    (terms_of before.graph.standing) (none_below before.graph) before.graph.limit before.formulas after.formulas asserts.root asserts.enters
     in
     let kept = asserts_terms after.formulas asserts.asserts in
     let terms : terms_of after.graph.standing ≡ terms_of before.graph.standing ++ added = kept.terms
@@ -138,8 +144,8 @@ same_all one other holds formulas saved =
 pub asserts_formula_once : (formula : Formula) (before one other : Assertions) → IsFormula formula →
     AreTables before → AssertsFormula formula before one → AssertsFormula formula before other → one ≡ other
 asserts_formula_once formula before one other is are first second =
-    let entry = enters_once-into (with_terms before.graph) first.entered second.entered formula is
-    (terms_of before.graph.standing) are.terms before.graph.limit before.formulas are.formulas one.formulas
+    let entry = enters_once-into (with_terms before.graph) first.entered second.entered formula [] (over_none formula is)
+    (terms_of before.graph.standing) (none_below before.graph) are.terms before.graph.limit before.formulas are.formulas one.formulas
     other.formulas first.root second.root first.enters second.enters in
     let moved : Asserts one.formulas first.root (held first.entered before.asserted) (held_of other) =
     subst (λ (table : Formulas). Asserts table first.root (held first.entered before.asserted) (held_of other))
@@ -154,7 +160,8 @@ pub full_terms_not_asserted : (formula : Formula) (before one other : Assertions
     AreTables before → AssertsFormula formula before one → StopsAssert formula before other TermsFull → ⊥
 full_terms_not_asserted formula before one other is are asserts stops =
     full_terms_not_entered (λ more. other.graph ≡ with_terms before.graph more) (λ more. asserts.entered
-    ≡ with_terms before.graph more) formula is (terms_of before.graph.standing) are.terms before.graph.limit
+    ≡ with_terms before.graph more) formula [] (over_none formula is) (terms_of before.graph.standing)
+    (none_below before.graph) are.terms before.graph.limit
     before.formulas are.formulas one.formulas asserts.root stops.0 asserts.enters
 
 -- and for its nodes
@@ -162,7 +169,8 @@ pub lacking_nodes_not_asserted : (formula : Formula) (before one other : Asserti
     AreTables before → AssertsFormula formula before one → StopsAssert formula before other NodesFull → ⊥
 lacking_nodes_not_asserted formula before one other is are asserts stops =
     lacking_nodes_not_entered (λ more. other.graph ≡ with_terms before.graph more) (λ more. asserts.entered
-    ≡ with_terms before.graph more) formula is (terms_of before.graph.standing) are.terms before.graph.limit
+    ≡ with_terms before.graph more) formula [] (over_none formula is) (terms_of before.graph.standing)
+    (none_below before.graph) are.terms before.graph.limit
     before.formulas are.formulas one.formulas asserts.root stops.0 asserts.enters
 
 -- where there is no room for its terms, it does not come to its nodes
@@ -170,7 +178,8 @@ pub full_terms_not_lacking_nodes : (formula : Formula) (before one other : Asser
     AreTables before → StopsAssert formula before one TermsFull → StopsAssert formula before other NodesFull → ⊥
 full_terms_not_lacking_nodes formula before one other is are first second =
     full_terms_not_lacking (λ more. one.graph ≡ with_terms before.graph more) (λ more. other.graph
-    ≡ with_terms before.graph more) formula is (terms_of before.graph.standing) are.terms before.graph.limit
+    ≡ with_terms before.graph more) formula [] (over_none formula is) (terms_of before.graph.standing)
+    (none_below before.graph) are.terms before.graph.limit
     before.formulas are.formulas first.0 second.0
 
 -- a formula that is asserted is not refused, but for want of memory
@@ -195,12 +204,14 @@ pub stopped_once : (formula : Formula) (before one other : Assertions) (fault al
     StopsAssert formula before other also → (fault ≡ also) × (one ≡ other)
 stopped_once formula before one other TermsFull TermsFull is are not so first second =
     let both = full_terms_once (λ more. one.graph ≡ with_terms before.graph more) (λ more. other.graph
-    ≡ with_terms before.graph more) formula is (terms_of before.graph.standing) are.terms before.graph.limit
+    ≡ with_terms before.graph more) formula [] (over_none formula is) (terms_of before.graph.standing)
+    (none_below before.graph) are.terms before.graph.limit
     before.formulas are.formulas first.0 second.0 in
     (refl, kept_alike before one other (both.grew ∙ sym both.also) first.1 second.1)
 stopped_once formula before one other NodesFull NodesFull is are not so first second =
     let both = lacking_nodes_once (λ more. one.graph ≡ with_terms before.graph more) (λ more. other.graph
-    ≡ with_terms before.graph more) formula is (terms_of before.graph.standing) are.terms before.graph.limit
+    ≡ with_terms before.graph more) formula [] (over_none formula is) (terms_of before.graph.standing)
+    (none_below before.graph) are.terms before.graph.limit
     before.formulas are.formulas first.0 second.0 in
     (refl, kept_alike before one other (both.grew ∙ sym both.also) first.1 second.1)
 stopped_once formula before one other TermsFull NodesFull is are not so first second = absurd

@@ -219,7 +219,7 @@ module _ (graph later : GraphState) (table grown : Formulas) (asserted after mor
       }
 
 -- what a refused entry leaves of the graph
-pub stop_grows : (before after : GraphState) (formula : Formula) (rows : List TermRow) (limit : ℕ) (table : Formulas) (fault : EnterFault) → StopsEntry (λ more. after ≡ with_terms before more) (λ added. (middle : GraphState) × (middle ≡ with_terms before added) × (after ≡ middle)) formula rows limit table fault → GrowsGraph before after
+pub stop_grows : (before after : GraphState) (formula : Formula) (rows : List TermRow) (limit : ℕ) (table : Formulas) (fault : EnterFault) → StopsEntry (λ more. after ≡ with_terms before more) (λ added. (middle : GraphState) × (middle ≡ with_terms before added) × (after ≡ middle)) formula [] rows limit table fault → GrowsGraph before after
 stop_grows before after formula rows limit table TermsFull stops = grows_terms before after stops.added stops.grew
 stop_grows before after formula rows limit table NodesFull stops = grows_terms before after stops.rows_grow.added stops.rows_grow.grew
 stop_grows before after formula rows limit table Memory stops = ⊎_elim (grows_terms before after stops.added) (λ p. grows_terms before after stops.added (p.2 ∙ p.1)) stops.grew
@@ -245,7 +245,7 @@ grows_entered formula terms old new number grows = record {
 }
 
 -- why a formula is not entered is why it is not asserted
-pub refused_stops : (formula : Formula) (before after : Assertions) (fault : EnterFault) → KeepsFormulas before after → StopsEntry (λ more. after.graph ≡ with_terms before.graph more) (λ added. (middle : GraphState) × (middle ≡ with_terms before.graph added) × (after.graph ≡ middle)) formula (terms_of before.graph.standing) before.graph.limit before.formulas fault → StopsAssert formula before after fault
+pub refused_stops : (formula : Formula) (before after : Assertions) (fault : EnterFault) → KeepsFormulas before after → StopsEntry (λ more. after.graph ≡ with_terms before.graph more) (λ added. (middle : GraphState) × (middle ≡ with_terms before.graph added) × (after.graph ≡ middle)) formula [] (terms_of before.graph.standing) before.graph.limit before.formulas fault → StopsAssert formula before after fault
 refused_stops formula before after TermsFull keeps stops = (stops, keeps)
 refused_stops formula before after NodesFull keeps stops = (stops, keeps)
 refused_stops formula before after Memory keeps stops = (record { added = stops.added; terms = stops.terms; grew = ⊎_elim (λ grew. grew) (λ p. p.2 ∙ p.1) stops.grew; enters = stops.enters }, keeps)
@@ -270,7 +270,7 @@ module _ (table grown : Formulas) (grows : GrowsTable table grown) (nodes forall
 
 -- after a refused entry
 module _ (graph later : GraphState) (table same : Formulas) (asserted : List ℕ) (levels : List Level) (formula : Formula) (fault : EnterFault) (stack : IsStackOf graph table asserted levels) (is : same ≡ table)
-    (stops : StopsEntry (λ more. later ≡ with_terms graph more) (λ added. (middle : GraphState) × (middle ≡ with_terms graph added) × (later ≡ middle)) formula (terms_of graph.standing) graph.limit table fault) where
+    (stops : StopsEntry (λ more. later ≡ with_terms graph more) (λ added. (middle : GraphState) × (middle ≡ with_terms graph added) × (later ≡ middle)) formula [] (terms_of graph.standing) graph.limit table fault) where
   refused_grows : GrowsGraph graph later
   refused_grows = stop_grows graph later formula (terms_of graph.standing) graph.limit table fault stops
 

@@ -1,5 +1,5 @@
 -- What it is to assert a formula: it is entered, and then its root is asserted.
-use Rattle.std.specs.Prelude.{◌≡◌, ℕ, List}
+use Rattle.std.specs.Prelude.{◌≡◌, ℕ, List, []}
 use Rattle.graph_terms.specs.declared.term_row.TermRow.{TermRow}
 use Rattle.graph_meaning.specs.Standing.{terms_of}
 use Rattle.graph_meaning.specs.State.{GraphState}
@@ -16,7 +16,7 @@ use Rattle.formula_assert.specs.Assertions.{Assertions, held_of}
 pub record AssertsFormula (formula : Formula) (before after : Assertions) : Type 0 where
   pub entered : GraphState
   pub root : ℕ
-  pub enters : Enters (λ more. entered ≡ with_terms before.graph more) formula (terms_of before.graph.standing)
+  pub enters : Enters (λ more. entered ≡ with_terms before.graph more) formula [] (terms_of before.graph.standing)
       before.graph.limit before.formulas after.formulas root
   pub asserts : Asserts after.formulas root (held entered before.asserted) (held_of after)
   pub saved_is : after.saved ≡ before.saved
@@ -32,13 +32,13 @@ pub record GainsTerms (formula : Formula) (before after : GraphState) : Type 0 w
   pub added : List TermRow
   pub terms : List ℕ
   pub grew : after ≡ with_terms before added
-  pub enters : EntersRows formula (terms_of before.standing) before.limit added terms
+  pub enters : EntersRows formula [] (terms_of before.standing) before.limit added terms
 
 -- the formula was not asserted: there was no room for its next term, or none for its next node once the graph had
 -- gained all its terms, or memory was refused; but for its first terms all is as before
 abbrev pub StopsAssert : Formula → Assertions → Assertions → EnterFault → Type 0
 StopsAssert formula before after TermsFull = FillsTerms (λ more. after.graph ≡ with_terms before.graph more) formula
-    (terms_of before.graph.standing) before.graph.limit × KeepsFormulas before after
+    [] (terms_of before.graph.standing) before.graph.limit × KeepsFormulas before after
 StopsAssert formula before after NodesFull = LacksNodes (λ more. after.graph ≡ with_terms before.graph more) formula
-    (terms_of before.graph.standing) before.graph.limit before.formulas × KeepsFormulas before after
+    [] (terms_of before.graph.standing) before.graph.limit before.formulas × KeepsFormulas before after
 StopsAssert formula before after Memory = GainsTerms formula before.graph after.graph × KeepsFormulas before after

@@ -1,15 +1,18 @@
 -- A forall of a formula becomes a forall of the table.
-use Rattle.std.proofs.Common.{◌≡◌, ℕ, zero, suc, ◌+◌, ◌≤◌, List, [], ◌∷◌}
-use Rattle.std.proofs.Common.{slice_get, Some, All, refl, sym, ap, subst, ◌∙◌, arith}
+use Rattle.std.proofs.Common.{◌≡◌, ℕ, zero, suc, ◌+◌, List, [], ◌∷◌}
+use Rattle.std.proofs.Common.{slice_get, Some, refl, sym, ap, subst, ◌∙◌, arith}
 use Rattle.std.proofs.lemmas.Option.{none-some, same_Some}
 use Rattle.graph_trigger.specs.declared.trigger.Trigger.{Trigger}
 use Rattle.graph_trigger.specs.Trigger.{IsValid, Occurs}
 use Rattle.graph_trigger.specs.Trigger.Occurs.{at_root, below}
 use Rattle.graph_terms.proofs.ListLaws.{All-slice_get}
 use Rattle.formula_draft.specs.declared.draft_forall.DraftForall.{DraftForall}
-use Rattle.formula_draft.specs.Draft.{FitsTrigger}
+use Rattle.formula_draft.specs.Draft.{Formula, AreLawful, FitsForall, FitsTrigger}
+use Rattle.formula_table.specs.declared.table_forall.TableForall.{TableForall}
+use Rattle.formula_table.specs.Body.{IsFormulaOver}
+use Rattle.formula_table.proofs.BodyLaws.{body_over, body_compact, one_body}
 use Rattle.formula_table.specs.Formulas.{IsForallOf, IsTriggerOf}
-use Rattle.formula_table.specs.Entry.{placed, numbered, table_forall}
+use Rattle.formula_table.specs.Entry.{placed, numbered, BecomesForall}
 
 -- a trigger among the numbered ones
 numbered_at : (forall place : ℕ) (triggers : List Trigger) (n : ℕ) (trigger : Trigger) →
@@ -44,19 +47,39 @@ valid_placed forall place trigger valid = record {
 }
 
 -- a forall of a formula is one of the table
-pub IsForallOf-table_forall : (number : ℕ) (new : DraftForall) → new.variables ≤ 32 →
-    All (FitsTrigger new.variables) new.triggers → IsForallOf number (table_forall number new)
-IsForallOf-table_forall number new few fit = record {
-  few_variables = few;
+pub becomes_forall : (formula : Formula) → AreLawful formula.rows formula.nodes formula.foralls → (number : ℕ)
+    (drafted : DraftForall) (forall : TableForall) → FitsForall formula.rows formula.nodes drafted →
+    BecomesForall formula number drafted forall → IsForallOf number forall
+becomes_forall formula lawful number drafted forall fits becomes = record {
+  few_variables = omega (arith, fits.few_variables, becomes.variables_are);
   triggers = λ place trigger at.
-      let old = numbered_at number 0 new.triggers place trigger at in
-      let fits = All-slice_get (FitsTrigger new.variables) new.triggers place old.0 fit old.1 in
+      let old = numbered_at number 0 drafted.triggers place trigger
+      (ap (λ (triggers : List Trigger). slice_get triggers place) (sym becomes.triggers_are) ∙ at) in
+      let fit = All-slice_get (FitsTrigger drafted.variables) drafted.triggers place old.0 fits.triggers_fit old.1 in
       let here : 0 + place ≡ place = omega arith in
-      subst (IsTriggerOf number place new.variables) (sym old.2)
+      subst (IsTriggerOf number place forall.variables) (sym old.2)
       (record {
-        valid = valid_placed number (0 + place) old.0 fits.valid;
+        valid = valid_placed number (0 + place) old.0 fit.valid;
         forall_is = refl;
         place_is = here;
-        variables_are = fits.variables_are;
+        variables_are = fit.variables_are ∙ sym becomes.variables_are;
       });
+  body_over = subst (λ (n : ℕ). IsFormulaOver n forall.body) (sym becomes.variables_are)
+      (body_over formula.rows formula.nodes drafted.body formula.foralls lawful drafted.variables fits.no_forall
+      fits.below forall.body becomes.body_is);
+  no_foralls = becomes.body_is.no_foralls;
+  compact = body_compact formula.rows formula.nodes drafted.body forall.body becomes.body_is;
 }
+
+-- and in one way
+pub one_forall : (formula : Formula) (number : ℕ) (drafted : DraftForall) (forall other : TableForall) →
+    BecomesForall formula number drafted forall → BecomesForall formula number drafted other → forall ≡ other
+one_forall formula number drafted forall other one two =
+    let body = one_body formula.rows formula.nodes drafted.body forall.body other.body one.body_is two.body_is in
+    ap (λ (n : ℕ). made n forall.triggers forall.body) (one.variables_are ∙ sym two.variables_are)
+    ∙ ap (λ (triggers : List Trigger). made other.variables triggers forall.body) (one.triggers_are
+    ∙ sym two.triggers_are)
+    ∙ ap (made other.variables other.triggers) body
+  where
+    made : ℕ → List Trigger → Formula → TableForall
+    made variables triggers body = record { variables = variables; triggers = triggers; body = body }

@@ -7,12 +7,12 @@ use Rattle.std.proofs.lemmas.List.Elements.{Contains-push, Contains-push_cases, 
 use Rattle.std.proofs.lemmas.List.Quantifiers.{all_pairs_push}
 use Rattle.std.proofs.lemmas.Option.{none-some, same_Some, slice_get_within, slice_get-get_or}
 use Rattle.graph_trigger.specs.declared.trigger.Trigger.{Trigger}
-use Rattle.graph_terms.proofs.ListLaws.{element_at, slice_get-append_left, slice_get-push, push_cases, place_from_Contains, Contains-slice_get}
+use Rattle.graph_terms.proofs.ListLaws.{element_at, push_cases, place_from_Contains, Contains-slice_get}
 use Rattle.formula_draft.specs.declared.draft_forall.DraftForall.{DraftForall}
 use Rattle.formula_draft.specs.Draft.{Formula}
 use Rattle.formula_table.specs.declared.table_forall.TableForall.{TableForall}
 use Rattle.formula_table.specs.Formulas.{Formulas, GrowsTable, with_foralls}
-use Rattle.formula_table.specs.Entry.{placed, numbered, table_forall, ReachesForall, EntersForalls}
+use Rattle.formula_table.specs.Entry.{placed, numbered, BecomesForall, ReachesForall, EntersForalls}
 use Rattle.formula_table.specs.EntryInside.{ForallGrows, ForallsEntered, ForallNumbersStand}
 use Rattle.formula_table.proofs.InOrderLemmas.{index-push, index-last}
 
@@ -41,7 +41,7 @@ foralls_none formula old = record {
     reached = [];
     all = record { rising = λ i j d a b. absurd (omega (arith, b)); exact = λ n. (λ c. absurd (no_element n c), λ p. absurd (omega (arith, p.0))) };
     count = refl;
-    each = λ k index forall at. absurd (none-some index at);
+    each = λ k index drafted forall at. absurd (none-some index at);
   };
   now_is = sym (with_foralls_none old);
   count = refl;
@@ -75,8 +75,8 @@ module _ (formula : Formula) (old now : Formulas) (numbers : List ℕ) (number n
         );
       };
       count = so.enters.count;
-      each = λ k index forall thing at.
-          let was = so.enters.each k index forall thing at in
+      each = λ k index drafted forall thing at item.
+          let was = so.enters.each k index drafted forall thing at item in
           let within = ((so.enters.all.exact index).0 (Contains-slice_get so.enters.reached k index thing)).0 in
           (old_number index within ∙ was.0, was.1);
     };
@@ -85,11 +85,10 @@ module _ (formula : Formula) (old now : Formulas) (numbers : List ℕ) (number n
   }
 
   -- a reached forall is put last
-  pub foralls_reached : (forall : DraftForall) (after : Formulas) → ReachesForall formula n → slice_get formula.foralls n ≡ Some forall → after ≡ with_foralls (table_forall (length now.foralls) forall ∷ []) now → number ≡ length now.foralls → ForallsSoFar formula old after (numbers ++ number ∷ []) (n + 1)
-  foralls_reached forall after reach at after_is number_is =
+  pub foralls_reached : (drafted : DraftForall) (new : TableForall) (after : Formulas) → ReachesForall formula n → slice_get formula.foralls n ≡ Some drafted → BecomesForall formula (length now.foralls) drafted new → after ≡ with_foralls (new ∷ []) now → number ≡ length now.foralls → ForallsSoFar formula old after (numbers ++ number ∷ []) (n + 1)
+  foralls_reached drafted new after reach at becomes after_is number_is =
       let now_foralls : now.foralls ≡ old.foralls ++ so.added = ap (λ (table : Formulas). table.foralls) so.now_is in
       let place : length now.foralls ≡ length old.foralls + length so.added = ap length now_foralls ∙ length-append old.foralls so.added in
-      let new = table_forall (length now.foralls) forall in
       record {
         added = so.added ++ new ∷ [];
         enters = record {
@@ -109,18 +108,25 @@ module _ (formula : Formula) (old now : Formulas) (numbers : List ℕ) (number n
             );
           };
           count = omega (arith, length-append so.enters.reached (n ∷ []), length-append so.added (new ∷ []), so.enters.count);
-          each = λ k index found thing here. ⊎_elim
-              (λ old_thing.
-              let was = so.enters.each k index found old_thing here in
+          each = λ k index found forall thing here item. ⊎_elim
+              (λ old_thing. ⊎_elim
+              (λ old_item.
+              let was = so.enters.each k index found forall old_thing here old_item in
               let within = ((so.enters.all.exact index).0 (Contains-slice_get so.enters.reached k index old_thing)).0 in
-              (old_number index within ∙ was.0, slice_get-append_left so.added (new ∷ []) k (table_forall (length old.foralls + k) found) was.1))
-              (λ new_thing.
-              let at_place : k ≡ length so.added = new_thing.0 ∙ so.enters.count in
-              let same : found ≡ forall = same_Some found forall (sym here ∙ ap (slice_get formula.foralls) new_thing.1 ∙ at) in
-              let count : length now.foralls ≡ length old.foralls + k = omega (arith, place, at_place) in (
+              (old_number index within ∙ was.0, was.1))
+              (λ new_item. absurd (omega (arith, slice_get_within so.enters.reached k index old_thing, so.enters.count, new_item.0)))
+              (push_cases so.added new k forall item))
+              (λ new_thing. ⊎_elim
+              (λ old_item. absurd (omega (arith, slice_get_within so.added k forall old_item, so.enters.count, new_thing.0)))
+              (λ new_item.
+              let same : found ≡ drafted = same_Some found drafted (sym here ∙ ap (slice_get formula.foralls) new_thing.1 ∙ at) in
+              let count : length now.foralls ≡ length old.foralls + k = omega (arith, place, new_item.0) in (
                 ap (slice_index (numbers ++ number ∷ [])) new_thing.1 ∙ last_number ∙ number_is ∙ count,
-                ap (slice_get (so.added ++ new ∷ [])) at_place ∙ slice_get-push so.added new ∙ ap Some (ap (table_forall (length now.foralls)) (sym same) ∙ ap (λ (m : ℕ). table_forall m found) count),
+                subst (λ (m : ℕ). BecomesForall formula m found forall) count
+                    (subst (λ (d : DraftForall). BecomesForall formula (length now.foralls) d forall) (sym same)
+                    (subst (BecomesForall formula (length now.foralls) drafted) (sym new_item.1) becomes)),
               ))
+              (push_cases so.added new k forall item))
               (push_cases so.enters.reached n k index thing);
         };
         now_is = after_is ∙ ap (λ (table : Formulas). with_foralls (new ∷ []) table) so.now_is ∙ ap (λ (foralls : List TableForall). record old { foralls = foralls }) (append_assoc old.foralls so.added (new ∷ []));
@@ -130,7 +136,7 @@ module _ (formula : Formula) (old now : Formulas) (numbers : List ℕ) (number n
 -- the next forall was entered or is not reached
 pub foralls_next : (formula : Formula) (old now after : Formulas) (numbers : List ℕ) (number n : ℕ) (reached : Bool) → ForallsSoFar formula old now numbers n → (reached ≡ true ↔ ReachesForall formula n) → ForallGrows formula n reached now after number → ForallsSoFar formula old after (numbers ++ number ∷ []) (n + 1)
 foralls_next formula old now after numbers number n false so reach grows = subst (λ (table : Formulas). ForallsSoFar formula old table (numbers ++ number ∷ []) (n + 1)) (sym grows) (foralls_unreached formula old now numbers number n so (λ r. absurd (true≢false (sym (reach.1 r)))))
-foralls_next formula old now after numbers number n true so reach grows = foralls_reached formula old now numbers number n so grows.0 after (reach.0 refl) grows.1 grows.2 grows.3
+foralls_next formula old now after numbers number n true so reach grows = foralls_reached formula old now numbers number n so grows.0 grows.1 after (reach.0 refl) grows.2 grows.3 grows.4 grows.5
 
 -- further foralls grow a table
 pub foralls_grow : (formula : Formula) (old now : Formulas) (numbers : List ℕ) (n : ℕ) → ForallsSoFar formula old now numbers n → GrowsTable old now
@@ -142,8 +148,9 @@ foralls_stand formula old new numbers entered index within reach =
     let enters = entered.grow.enters in
     let place = place_from_Contains enters.reached index ((enters.all.exact index).1 (omega (arith, within, entered.grow.all), reach)) in
     let forall = element_at formula.foralls index within in
-    let has = enters.each place.0 index forall.0 place.1 forall.1 in
     let below_count = slice_get_within enters.reached place.0 index place.1 in
+    let item = element_at entered.added place.0 (omega (arith, below_count, enters.count)) in
+    let has = enters.each place.0 index forall.0 item.0 place.1 forall.1 item.1 in
     let count : length new.foralls ≡ length old.foralls + length entered.added = ap (λ (table : Formulas). length table.foralls) entered.new_is ∙ length-append old.foralls entered.added in
     omega (arith, has.0, below_count, enters.count, count)
 

@@ -1,5 +1,6 @@
 pub mod InOrderLaws
 pub mod FormulaLaws
+pub mod BodyLaws
 pub mod ForallLaws
 pub mod BecomesLaws
 pub mod EntryLaws
@@ -9,5 +10,6 @@ pub mod TableLemmas
 pub mod MarkLemmas
 pub mod InOrderLemmas
 pub mod EntryLemmas
+pub mod BodyLemmas
 pub mod ForallLemmas
 pub mod NodeLemmas

@@ -15,7 +15,8 @@ use Rattle.formula_draft.proofs.ItemLaws.{put_cases}
 use Rattle.formula_draft.proofs.SameLaws.{found_at, absent}
 use Rattle.formula_draft.specs.Reach.{ReachesNode}
 use Rattle.formula_draft.proofs.ReachLaws.{node_stands}
-use Rattle.formula_draft.specs.Draft.{Formula, IsFormula}
+use Rattle.formula_draft.specs.Draft.{Formula}
+use Rattle.formula_table.specs.Body.{IsFormulaOver}
 use Rattle.formula_table.specs.declared.node.Node.{Node}
 use Rattle.formula_table.specs.declared.node.Node.TheVariants as entered
 use Rattle.formula_table.specs.declared.table_forall.TableForall.{TableForall}
@@ -74,8 +75,8 @@ pub one_node : (formula : Formula) (terms foralls numbers : List ℕ) (n : ℕ) 
 one_node formula terms foralls numbers n x y bx by = bx.node_is ∙ ap (entered_node terms foralls numbers) (same_Some bx.draft_node by.draft_node (sym bx.stands ∙ by.stands)) ∙ sym by.node_is
 
 -- and the same one when later nodes are entered
-pub same_nodes : (formula : Formula) → IsFormula formula → (terms foralls numbers : List ℕ) (number n : ℕ) (x : Node) → n < length numbers + 1 → BecomesNode formula terms foralls numbers n x ↔ BecomesNode formula terms foralls (numbers ++ number ∷ []) n x
-same_nodes formula is terms foralls numbers number n x below = (
+pub same_nodes : (formula : Formula) (variables : ℕ) → IsFormulaOver variables formula → (terms foralls numbers : List ℕ) (number n : ℕ) (x : Node) → n < length numbers + 1 → BecomesNode formula terms foralls numbers n x ↔ BecomesNode formula terms foralls (numbers ++ number ∷ []) n x
+same_nodes formula variables is terms foralls numbers number n x below = (
   λ b. record { draft_node = b.draft_node; reached = b.reached; stands = b.stands; node_is = b.node_is ∙ sym (equal b.draft_node b.stands) },
   λ b. record { draft_node = b.draft_node; reached = b.reached; stands = b.stands; node_is = b.node_is ∙ equal b.draft_node b.stands },
 )
@@ -105,8 +106,8 @@ pub foralls_still : (formula : Formula) (old now : Formulas) (foralls : List ℕ
 foralls_still formula old now foralls same stand index below reach = let was = stand index below reach in omega (arith, ap length same, was)
 
 -- one node more was entered
-pub nodes_next : (formula : Formula) → IsFormula formula → (terms foralls : List ℕ) (old now after : Formulas) (numbers : List ℕ) (number n : ℕ) → NodesSoFar formula terms foralls old now numbers n → NodeGrows formula terms foralls numbers now after number → NodesSoFar formula terms foralls old after (numbers ++ number ∷ []) (n + 1)
-nodes_next formula is terms foralls old now after numbers number n so step =
+pub nodes_next : (formula : Formula) (variables : ℕ) → IsFormulaOver variables formula → (terms foralls : List ℕ) (old now after : Formulas) (numbers : List ℕ) (number n : ℕ) → NodesSoFar formula terms foralls old now numbers n → NodeGrows formula terms foralls numbers now after number → NodesSoFar formula terms foralls old after (numbers ++ number ∷ []) (n + 1)
+nodes_next formula variables is terms foralls old now after numbers number n so step =
     let more = step.0 in
     let Becomes = BecomesNode formula terms foralls numbers (length numbers) in
     let now_nodes : now.nodes ≡ old.nodes ++ so.added = ap (λ (table : Formulas). table.nodes) so.now_is in
@@ -114,7 +115,7 @@ nodes_next formula is terms foralls old now after numbers number n so step =
     let after_nodes : after.nodes ≡ now.nodes ++ more = ap (λ (table : Formulas). table.nodes) step.1 in
     let puts = subst (λ (nodes : List Node). PutsNext Becomes nodes old.limit more number) now_nodes (subst (λ (limit : ℕ). PutsNext Becomes now.nodes limit more number) now_limit step.2) in
     let count : length (numbers ++ number ∷ []) ≡ length numbers + 1 = length-append numbers (number ∷ []) in
-    let next = next_in_order (BecomesNode formula terms foralls numbers) (BecomesNode formula terms foralls (numbers ++ number ∷ [])) old.nodes old.limit (length numbers) numbers refl (one_node formula terms foralls numbers (length numbers)) (same_nodes formula is terms foralls numbers number) so.added more number so.enters puts in
+    let next = next_in_order (BecomesNode formula terms foralls numbers) (BecomesNode formula terms foralls (numbers ++ number ∷ [])) old.nodes old.limit (length numbers) numbers refl (one_node formula terms foralls numbers (length numbers)) (same_nodes formula variables is terms foralls numbers number) so.added more number so.enters puts in
     record {
       added = so.added ++ more;
       enters = subst (λ (before : ℕ). AreInOrder (BecomesNode formula terms foralls (numbers ++ number ∷ [])) old.nodes old.limit before (so.added ++ more) (numbers ++ number ∷ [])) (sym count) next;

@@ -1,12 +1,12 @@
--- How a formula is entered: its reached rows become terms, its reached foralls get the next numbers, and its reached
--- nodes become nodes of the table, each in the formula's order.
+-- How a formula is entered over a tuple of terms, one for each of its variables: its reached rows become terms, its
+-- reached foralls get the next numbers, and its reached nodes become nodes of the table, each in the formula's order.
 use Rattle.std.specs.Prelude.{◌≡◌, ℕ, ◌+◌, ◌<◌, ◌⊎◌, min, max, List}
 use Rattle.std.specs.Prelude.{[], ◌∷◌, ◌++◌, length, map, slice_get, slice_index, Some}
 use Rattle.graph_terms.specs.declared.term_row.TermRow.{TermRow}
 use Rattle.graph_trigger.specs.declared.trigger.Trigger.{Trigger}
 use Rattle.graph_meaning.specs.Questions.{AreAll}
-use Rattle.graph_terms.specs.Terms.{term_row}
-use Rattle.formula_draft.specs.declared.draft_row.DraftRow.TheVariants.{App}
+use Rattle.graph_terms.specs.Terms.{HasRow, term_row}
+use Rattle.formula_draft.specs.declared.draft_row.DraftRow.TheVariants.{Var, App}
 use Rattle.formula_draft.specs.declared.draft_node.DraftNode.{DraftNode}
 use Rattle.formula_draft.specs.declared.draft_node.DraftNode.TheVariants.{Equal, Atom, And, Or, Forall}
 use Rattle.formula_draft.specs.declared.draft_forall.DraftForall.{DraftForall}
@@ -18,25 +18,29 @@ use Rattle.formula_table.specs.declared.table_forall.TableForall.{TableForall}
 use Rattle.formula_table.specs.declared.enter_fault.EnterFault.{EnterFault}
 use Rattle.formula_table.specs.declared.enter_fault.EnterFault.TheVariants.{TermsFull, NodesFull, Memory}
 use Rattle.formula_table.specs.Formulas.{Formulas}
+use Rattle.formula_table.specs.Body.{IsBodyOf}
 use Rattle.formula_table.specs.InOrder.{AreInOrder, IsFullFor}
 
 -- the row over the terms that its arguments became
 abbrev pub entered_row : List ℕ → ℕ → List ℕ → TermRow
 entered_row terms symbol args = term_row symbol (map (slice_index terms) args)
 
--- the row with this number is reached, and is this one over terms
-pub record BecomesRow (formula : Formula) (terms : List ℕ) (n : ℕ) (row : TermRow) : Type 0 where
-  pub symbol : ℕ
-  pub args : List ℕ
-  pub reached : ReachesRow formula.rows formula.nodes formula.root n
-  pub stands : slice_get formula.rows n ≡ Some (App symbol args)
-  pub row_is : row ≡ entered_row terms symbol args
+-- the row with this number is reached, and becomes this row of a table: a variable that of its term in the tuple,
+-- which stands, and an application the one over terms
+pub data BecomesRow (formula : Formula) (tuple : List ℕ) (rows : List TermRow) (terms : List ℕ) (n : ℕ) : TermRow →
+    Type 0 where
+  variable : {index term : ℕ} {row : TermRow} → ReachesRow formula.rows formula.nodes formula.root n →
+      slice_get formula.rows n ≡ Some (Var index) → slice_get tuple index ≡ Some term → HasRow rows term row →
+      BecomesRow formula tuple rows terms n row
+  application : {symbol : ℕ} {args : List ℕ} → ReachesRow formula.rows formula.nodes formula.root n →
+      slice_get formula.rows n ≡ Some (App symbol args) →
+      BecomesRow formula tuple rows terms n (entered_row terms symbol args)
 
 -- the first rows were entered: the rows that were added, and the term of each, which means nothing for a row that
 -- isn't reached
-abbrev pub EntersRows : Formula → List TermRow → ℕ → List TermRow → List ℕ → Type 0
-EntersRows formula rows limit added terms = AreInOrder (BecomesRow formula terms) rows limit (length terms) added
-    terms
+abbrev pub EntersRows : Formula → List ℕ → List TermRow → ℕ → List TermRow → List ℕ → Type 0
+EntersRows formula tuple rows limit added terms = AreInOrder (BecomesRow formula tuple rows terms) rows limit
+    (length terms) added terms
 
 -- a trigger with the number of its forall and its place
 abbrev pub placed : ℕ → ℕ → Trigger → Trigger
@@ -47,9 +51,13 @@ abbrev pub numbered : ℕ → ℕ → List Trigger → List Trigger
 numbered forall place [] = []
 numbered forall place (trigger ∷ triggers) = placed forall place trigger ∷ numbered forall (place + 1) triggers
 
--- a forall of a formula under its number in the table
-abbrev pub table_forall : ℕ → DraftForall → TableForall
-table_forall number new = record { variables = new.variables; triggers = numbered number 0 new.triggers }
+-- what a forall of a formula is under its number in the table: its triggers have the number and their places, and its
+-- body has what is reached of the formula's
+pub record BecomesForall (formula : Formula) (number : ℕ) (drafted : DraftForall) (forall : TableForall) : Type 0
+  where
+    pub variables_are : forall.variables ≡ drafted.variables
+    pub triggers_are : forall.triggers ≡ numbered number 0 drafted.triggers
+    pub body_is : IsBodyOf formula.rows formula.nodes drafted.body forall.body
 
 -- a reached node is the forall with this index
 pub record ReachesForall (formula : Formula) (index : ℕ) : Type 0 where
@@ -62,9 +70,9 @@ pub record EntersForalls (formula : Formula) (old added : List TableForall) (num
   pub reached : List ℕ
   pub all : AreAll (λ index. (index < length numbers) × ReachesForall formula index) reached
   pub count : length reached ≡ length added
-  pub each : (k index : ℕ) (forall : DraftForall) → slice_get reached k ≡ Some index →
-      slice_get formula.foralls index ≡ Some forall → (slice_index numbers index ≡ length old + k) ×
-      (slice_get added k ≡ Some (table_forall (length old + k) forall))
+  pub each : (k index : ℕ) (drafted : DraftForall) (forall : TableForall) → slice_get reached k ≡ Some index →
+      slice_get formula.foralls index ≡ Some drafted → slice_get added k ≡ Some forall →
+      (slice_index numbers index ≡ length old + k) × BecomesForall formula (length old + k) drafted forall
 
 -- the node over terms, numbers of foralls and earlier nodes; the terms of an equation in ascending order
 abbrev pub entered_node : List ℕ → List ℕ → List ℕ → DraftNode → Node
@@ -88,29 +96,29 @@ EntersNodes formula terms foralls nodes limit added numbers = AreInOrder (Become
     nodes limit (length numbers) added numbers
 
 -- all rows were entered, and the terms grew by what they added
-pub record RowsGrow (grown : List TermRow → Type 0) (formula : Formula) (rows : List TermRow) (limit : ℕ)
-    (terms : List ℕ) : Type 0 where
+pub record RowsGrow (grown : List TermRow → Type 0) (formula : Formula) (tuple : List ℕ) (rows : List TermRow)
+    (limit : ℕ) (terms : List ℕ) : Type 0 where
   pub added : List TermRow
   pub grew : grown added
-  pub enters : EntersRows formula rows limit added terms
+  pub enters : EntersRows formula tuple rows limit added terms
   pub all : length terms ≡ length formula.rows
 
 -- the first rows were entered, the terms grew by what they added, and there is no room for the next term
-pub record FillsTerms (grown : List TermRow → Type 0) (formula : Formula) (rows : List TermRow) (limit : ℕ) : Type 0
-  where
-    pub added : List TermRow
-    pub terms : List ℕ
-    pub grew : grown added
-    pub enters : EntersRows formula rows limit added terms
-    pub full : IsFullFor (BecomesRow formula terms (length terms)) (rows ++ added) limit
+pub record FillsTerms (grown : List TermRow → Type 0) (formula : Formula) (tuple : List ℕ) (rows : List TermRow)
+    (limit : ℕ) : Type 0 where
+  pub added : List TermRow
+  pub terms : List ℕ
+  pub grew : grown added
+  pub enters : EntersRows formula tuple rows limit added terms
+  pub full : IsFullFor (BecomesRow formula tuple rows terms (length terms)) (rows ++ added) limit
 
 -- the first rows were entered, the terms grew by what they added, and perhaps memory was refused for the next term
-pub record LacksMemory (grown refused : List TermRow →
-    Type 0) (formula : Formula) (rows : List TermRow) (limit : ℕ) : Type 0 where
+pub record LacksMemory (grown refused : List TermRow → Type 0) (formula : Formula) (tuple : List ℕ)
+    (rows : List TermRow) (limit : ℕ) : Type 0 where
   pub added : List TermRow
   pub terms : List ℕ
   pub grew : grown added ⊎ refused added
-  pub enters : EntersRows formula rows limit added terms
+  pub enters : EntersRows formula tuple rows limit added terms
 
 -- all foralls were entered
 pub record ForallsGrow (formula : Formula) (old added : List TableForall) (numbers : List ℕ) : Type 0 where
@@ -154,23 +162,24 @@ StopsTable formula terms old TermsFull = ⊥
 StopsTable formula terms old NodesFull = FillsTable formula terms old
 StopsTable formula terms old Memory = Unit {0}
 
--- the formula was entered: its rows as terms, then its foralls and nodes, of which the root has this number
-pub record Enters (grown : List TermRow → Type 0) (formula : Formula) (rows : List TermRow) (limit : ℕ)
-    (old new : Formulas) (number : ℕ) : Type 0 where
+-- the formula was entered over the tuple: its rows as terms, then its foralls and nodes, of which the root has this
+-- number
+pub record Enters (grown : List TermRow → Type 0) (formula : Formula) (tuple : List ℕ) (rows : List TermRow)
+    (limit : ℕ) (old new : Formulas) (number : ℕ) : Type 0 where
   pub terms : List ℕ
-  pub rows_grow : RowsGrow grown formula rows limit terms
+  pub rows_grow : RowsGrow grown formula tuple rows limit terms
   pub table_grows : TableGrows formula terms old new number
 
 -- the rows were entered as terms, and there is no room for all nodes
-pub record LacksNodes (grown : List TermRow → Type 0) (formula : Formula) (rows : List TermRow) (limit : ℕ)
-    (old : Formulas) : Type 0 where
+pub record LacksNodes (grown : List TermRow → Type 0) (formula : Formula) (tuple : List ℕ) (rows : List TermRow)
+    (limit : ℕ) (old : Formulas) : Type 0 where
   pub terms : List ℕ
-  pub rows_grow : RowsGrow grown formula rows limit terms
+  pub rows_grow : RowsGrow grown formula tuple rows limit terms
   pub fills : FillsTable formula terms old
 
 -- the formula was not entered
-abbrev pub StopsEntry : (List TermRow → Type 0) → (List TermRow → Type 0) → Formula → List TermRow → ℕ → Formulas →
-    EnterFault → Type 0
-StopsEntry grown refused formula rows limit old TermsFull = FillsTerms grown formula rows limit
-StopsEntry grown refused formula rows limit old NodesFull = LacksNodes grown formula rows limit old
-StopsEntry grown refused formula rows limit old Memory = LacksMemory grown refused formula rows limit
+abbrev pub StopsEntry : (List TermRow → Type 0) → (List TermRow → Type 0) → Formula → List ℕ → List TermRow → ℕ →
+    Formulas → EnterFault → Type 0
+StopsEntry grown refused formula tuple rows limit old TermsFull = FillsTerms grown formula tuple rows limit
+StopsEntry grown refused formula tuple rows limit old NodesFull = LacksNodes grown formula tuple rows limit old
+StopsEntry grown refused formula tuple rows limit old Memory = LacksMemory grown refused formula tuple rows limit

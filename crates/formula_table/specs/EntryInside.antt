@@ -13,7 +13,7 @@ use Rattle.formula_table.specs.declared.enter_fault.EnterFault.TheVariants.{Term
 use Rattle.formula_table.specs.Formulas.{Formulas, with_foralls}
 use Rattle.formula_table.specs.InOrder.{IsFullFor, PutsNext}
 use Rattle.formula_table.specs.Entry.{BecomesRow, BecomesNode, ReachesForall, FillsTerms, LacksMemory}
-use Rattle.formula_table.specs.Entry.{FillsNodes, ForallsGrow, NodesGrow, table_forall}
+use Rattle.formula_table.specs.Entry.{FillsNodes, ForallsGrow, NodesGrow, BecomesForall}
 
 -- each number of a reached row is that of a term
 abbrev pub NumbersStand : Formula → ℕ → List ℕ → Type 0
@@ -27,30 +27,30 @@ StopsTerm rows limit unchanged refused row NodesFull = ⊥
 StopsTerm rows limit unchanged refused row Memory = unchanged ⊎ refused
 
 -- the next row was entered, and the terms grew by what it adds
-abbrev pub RowGrows : (List TermRow → Type 0) → Formula → List TermRow → ℕ → List ℕ → ℕ → Type 0
-RowGrows grown formula rows limit terms term = (more : List TermRow) × grown more ×
-    PutsNext (BecomesRow formula terms (length terms)) rows limit more term
+abbrev pub RowGrows : (List TermRow → Type 0) → Formula → List ℕ → List TermRow → ℕ → List ℕ → ℕ → Type 0
+RowGrows grown formula tuple rows limit terms term = (more : List TermRow) × grown more ×
+    PutsNext (BecomesRow formula tuple rows terms (length terms)) rows limit more term
 
 -- the next row was not entered
-abbrev pub StopsRow : Type 0 → Type 0 → Formula → List TermRow → ℕ → List ℕ → EnterFault → Type 0
-StopsRow unchanged refused formula rows limit terms TermsFull = unchanged ×
-    IsFullFor (BecomesRow formula terms (length terms)) rows limit
-StopsRow unchanged refused formula rows limit terms NodesFull = ⊥
-StopsRow unchanged refused formula rows limit terms Memory = unchanged ⊎ refused
+abbrev pub StopsRow : Type 0 → Type 0 → Formula → List ℕ → List TermRow → ℕ → List ℕ → EnterFault → Type 0
+StopsRow unchanged refused formula tuple rows limit terms TermsFull = unchanged ×
+    IsFullFor (BecomesRow formula tuple rows terms (length terms)) rows limit
+StopsRow unchanged refused formula tuple rows limit terms NodesFull = ⊥
+StopsRow unchanged refused formula tuple rows limit terms Memory = unchanged ⊎ refused
 
 -- not all rows were entered
-abbrev pub StopsRows : (List TermRow → Type 0) → (List TermRow → Type 0) → Formula → List TermRow → ℕ → EnterFault →
-    Type 0
-StopsRows grown refused formula rows limit TermsFull = FillsTerms grown formula rows limit
-StopsRows grown refused formula rows limit NodesFull = ⊥
-StopsRows grown refused formula rows limit Memory = LacksMemory grown refused formula rows limit
+abbrev pub StopsRows : (List TermRow → Type 0) → (List TermRow → Type 0) → Formula → List ℕ → List TermRow → ℕ →
+    EnterFault → Type 0
+StopsRows grown refused formula tuple rows limit TermsFull = FillsTerms grown formula tuple rows limit
+StopsRows grown refused formula tuple rows limit NodesFull = ⊥
+StopsRows grown refused formula tuple rows limit Memory = LacksMemory grown refused formula tuple rows limit
 
 -- a reached forall was put last under its number, and another left the table
 abbrev pub ForallGrows : Formula → ℕ → Bool → Formulas → Formulas → ℕ → Type 0
 ForallGrows formula index false old new number = new ≡ old
-ForallGrows formula index true old new number = (forall : DraftForall) ×
-    (slice_get formula.foralls index ≡ Some forall) × (new
-    ≡ with_foralls (table_forall (length old.foralls) forall ∷ []) old) × (number ≡ length old.foralls)
+ForallGrows formula index true old new number = (drafted : DraftForall) × (forall : TableForall) ×
+    (slice_get formula.foralls index ≡ Some drafted) × BecomesForall formula (length old.foralls) drafted forall ×
+    (new ≡ with_foralls (forall ∷ []) old) × (number ≡ length old.foralls)
 
 -- the table grew by the foralls of the formula, with these numbers
 pub record ForallsEntered (formula : Formula) (old new : Formulas) (numbers : List ℕ) : Type 0 where

@@ -10,6 +10,7 @@ use Rattle.formula_table.specs.declared.enter_fault.EnterFault.{EnterFault}
 use Rattle.formula_table.specs.declared.enter_fault.EnterFault.TheVariants.{TermsFull, NodesFull, Memory}
 use Rattle.formula_draft.specs.Items.{with_item}
 use Rattle.formula_table.specs.InOrder.{StandsNowhere}
+use Rattle.formula_table.specs.Body.{IsFormulaOver, IsCompact}
 use Rattle.formula_table.specs.Node.{children_of, terms_in, same_entered}
 
 -- nodes and foralls by number, and how many nodes there may be
@@ -37,11 +38,15 @@ pub record IsTriggerOf (forall place variables : ℕ) (trigger : Trigger) : Type
   pub place_is : trigger.place ≡ place
   pub variables_are : trigger.variables ≡ variables
 
--- the forall with this number has few variables, and its triggers name it and their places
+-- the forall with this number has few variables, its triggers name it and their places, and its body is a formula
+-- over its variables, without foralls, all of which is reached
 pub record IsForallOf (n : ℕ) (forall : TableForall) : Type 0 where
   pub few_variables : forall.variables ≤ 32
   pub triggers : (place : ℕ) (trigger : Trigger) → slice_get forall.triggers place ≡ Some trigger →
       IsTriggerOf n place forall.variables trigger
+  pub body_over : IsFormulaOver forall.variables forall.body
+  pub no_foralls : forall.body.foralls ≡ []
+  pub compact : IsCompact forall.body
 
 -- parts are earlier, the terms of an equation ascend, foralls stand, and no node stands twice
 pub record IsFormulaTable (table : Formulas) : Type 0 where

@@ -1,5 +1,8 @@
 pub mod InOrder
 pub mod Node
+pub mod Body
+pub mod BodyView
+pub mod BodyInside
 pub mod Formulas
 pub mod TableInside
 pub mod Marks

@@ -3,9 +3,10 @@ ghost use Rattle.std.specs.Prelude.{◌≡◌, ◌<◌, length, IfOk, OnErr};
 ghost use Rattle.formula_draft.specs.Draft.{IsFormula};
 ghost use Rattle.formula_table.specs.Marks.{AreMarks};
 ghost use Rattle.formula_table.specs.Formulas.{GrowsTable, with_foralls};
-ghost use Rattle.formula_table.specs.Entry.{table_forall, ReachesForall};
+ghost use Rattle.formula_table.specs.Entry.{numbered, BecomesForall, ReachesForall};
 ghost use Rattle.formula_table.specs.EntryInside.{ForallGrows, ForallsEntered};
 
+use crate::body::Body;
 use crate::enter_rows::push_number;
 use crate::formula_table::FormulaTable;
 use crate::table_forall::TableForall;
@@ -14,20 +15,37 @@ use graph_terms::Memory;
 use graph_trigger::Triggers;
 use std::alloc::Global;
 
-/// A forall of a formula under its number in the table.
-fn numbered_forall(alloc: Global, number: u32, new: &DraftForall) -> Result<TableForall, Memory>
-    ensures { IfOk result (λ forall. forall ≡ table_forall number new.now) }
+/// Triggers with the number of their forall and their places.
+fn numbered_triggers(alloc: Global, number: u32, triggers: &Triggers) -> Result<Triggers, Memory>
+    ensures { IfOk result (λ made. made ≡ numbered number 0 triggers.now) }
 {
-    let mut triggers = Triggers::new(alloc);
-    for place in 0..new.triggers.len() {
-        let mut trigger = new.triggers.get(place).copy(alloc)?;
+    let mut made = Triggers::new(alloc);
+    for place in 0..triggers.len() {
+        let mut trigger = triggers.get(place).copy(alloc)?;
         trigger.forall = number;
         trigger.place = place;
-        triggers.push(trigger)?;
+        made.push(trigger)?;
     }
+    Ok(made)
+}
+
+/// A forall of a formula under its number in the table.
+fn table_forall(
+    alloc: Global,
+    number: u32,
+    formula: &Formula,
+    new: &DraftForall,
+) -> Result<TableForall, Memory>
+    requires formula { IsFormula formula.now }
+    requires stands { new.now.body < length formula.now.nodes }
+    ensures { IfOk result (BecomesForall formula.now number new.now) }
+{
+    let triggers = numbered_triggers(alloc, number, &new.triggers)?;
+    let body = Body::of_node(alloc, formula, new.body)?;
     Ok(TableForall {
         variables: new.variables,
         triggers,
+        body,
     })
 }
 
@@ -47,7 +65,8 @@ fn enter_forall(
     if !reached {
         return Ok(0);
     }
-    let forall = numbered_forall(alloc, table.foralls(), formula.forall_at(index))?;
+    let number = table.foralls();
+    let forall = table_forall(alloc, number, formula, formula.forall_at(index))?;
     let number = table.push_forall(forall)?;
     Ok(number)
 }

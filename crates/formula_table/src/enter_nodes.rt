@@ -17,7 +17,11 @@ use graph_terms::{Memory, Numbers};
 use std::alloc::Global;
 
 /// The numbers that these parts have.
-fn renamed_parts(alloc: Global, parts: &[u32], numbers: &[u32]) -> Result<Numbers, Memory>
+pub(crate) fn renamed_parts(
+    alloc: Global,
+    parts: &[u32],
+    numbers: &[u32],
+) -> Result<Numbers, Memory>
     requires { All (λ part. part < length numbers.now) parts.now }
     ensures { IfOk result (λ found. found ≡ map (slice_index numbers.now) parts.now) }
 {

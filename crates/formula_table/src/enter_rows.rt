@@ -1,10 +1,11 @@
 //! Enters the rows of a formula as terms.
 ghost use Rattle.std.specs.Prelude.{◌≡◌, ◌<◌, ◌≤◌, ◌↔◌, ◌++◌, ◌∷◌, [], List, length, map, slice_index, All, IsTrue, IfOk, IfErr, OnOk};
 ghost use Rattle.graph_terms.specs.declared.term_row.TermRow.{TermRow};
+ghost use Rattle.graph_terms.specs.Terms.{most_args};
 ghost use Rattle.graph_terms.specs.TermEntry.{AddGrows};
 ghost use Rattle.formula_draft.specs.Reach.{ReachesRow};
 ghost use Rattle.formula_table.specs.Marks.{AreMarks};
-ghost use Rattle.formula_draft.specs.Draft.{IsFormula};
+ghost use Rattle.formula_table.specs.Body.{IsFormulaOver};
 ghost use Rattle.formula_table.specs.Entry.{entered_row, RowsGrow};
 ghost use Rattle.formula_table.specs.EntryInside.{NumbersStand, StopsTerm, RowGrows, StopsRow, StopsRows};
 
@@ -43,7 +44,7 @@ fn add_term<E: TermEntry>(
 ) -> Result<u32, EnterFault>
     requires named { All (λ arg. arg < length numbers.now) args.now }
     requires stand { All (λ arg. slice_index numbers.now arg < length (E.rows terms.old)) args.now }
-    requires few { length args.now ≤ 255 }
+    requires few { length args.now ≤ most_args }
     ensures ok { IfOk result (λ term. AddGrows (E.rows terms.old) (E.limit terms.old) (E.rows terms.new) (E.grown terms.old terms.new) (entered_row numbers.now symbol args.now) term) }
     ensures fault { IfErr result (StopsTerm (E.rows terms.old) (E.limit terms.old) (terms.new ≡ terms.old) (E.refused terms.old terms.new) (entered_row numbers.now symbol args.now)) }
 {
@@ -52,20 +53,22 @@ fn add_term<E: TermEntry>(
     Ok(term)
 }
 
-/// Enters the next row, where it is reached.
+/// Enters the next row, where it is reached. Gives its term: of a variable the one of the tuple.
 fn enter_row<E: TermEntry>(
     alloc: Global,
     terms: &mut E,
     formula: &Formula,
+    tuple: &[u32],
     reached: bool,
     numbers: &[u32],
 ) -> Result<u32, EnterFault>
-    requires formula { IsFormula formula.now }
+    requires formula { IsFormulaOver (length tuple.now) formula.now }
+    requires tuple { All (λ term. term < length (E.rows terms.old)) tuple.now }
     requires next { length numbers.now < length formula.now.rows }
     requires reached { IsTrue reached ↔ ReachesRow formula.now.rows formula.now.nodes formula.now.root (length numbers.now) }
     requires stand { NumbersStand formula.now (length (E.rows terms.old)) numbers.now }
-    ensures ok { IfOk result (RowGrows (E.grown terms.old terms.new) formula.now (E.rows terms.old) (E.limit terms.old) numbers.now) }
-    ensures fault { IfErr result (StopsRow (terms.new ≡ terms.old) (E.refused terms.old terms.new) formula.now (E.rows terms.old) (E.limit terms.old) numbers.now) }
+    ensures ok { IfOk result (RowGrows (E.grown terms.old terms.new) formula.now tuple.now (E.rows terms.old) (E.limit terms.old) numbers.now) }
+    ensures fault { IfErr result (StopsRow (terms.new ≡ terms.old) (E.refused terms.old terms.new) formula.now tuple.now (E.rows terms.old) (E.limit terms.old) numbers.now) }
 {
     if !reached {
         return Ok(0);
@@ -73,28 +76,30 @@ fn enter_row<E: TermEntry>(
     let count = formula.rows();
     prove!(numbers.len() < count as usize);
     match formula.row_at(numbers.len() as u32) {
-        DraftRow::Var { .. } => unreachable!(),
+        DraftRow::Var { index } => return Ok(tuple[*index as usize]),
         DraftRow::App { symbol, args } => {
             return add_term(alloc, terms, *symbol, args.as_slice(), numbers);
         }
     }
 }
 
-/// Enters the reached rows, in order. Gives the term of each row, and 0 for a row that isn't reached.
+/// Enters the reached rows over a tuple of terms, in order. Gives the term of each row, and 0 for a row that isn't reached.
 pub(crate) fn enter_rows<E: TermEntry>(
     alloc: Global,
     terms: &mut E,
     formula: &Formula,
+    tuple: &[u32],
     reached: &[bool],
 ) -> Result<Vec<u32>, EnterFault>
-    requires formula { IsFormula formula.now }
+    requires formula { IsFormulaOver (length tuple.now) formula.now }
+    requires tuple { All (λ term. term < length (E.rows terms.old)) tuple.now }
     requires reached { AreMarks (length formula.now.rows) (ReachesRow formula.now.rows formula.now.nodes formula.now.root) reached.now }
-    ensures ok { IfOk result (λ numbers. RowsGrow (E.grown terms.old terms.new) formula.now (E.rows terms.old) (E.limit terms.old) numbers.items) }
-    ensures fault { IfErr result (StopsRows (E.grown terms.old terms.new) (λ added. (middle : E) × E.grown terms.old middle added × E.refused middle terms.new) formula.now (E.rows terms.old) (E.limit terms.old)) }
+    ensures ok { IfOk result (λ numbers. RowsGrow (E.grown terms.old terms.new) formula.now tuple.now (E.rows terms.old) (E.limit terms.old) numbers.items) }
+    ensures fault { IfErr result (StopsRows (E.grown terms.old terms.new) (λ added. (middle : E) × E.grown terms.old middle added × E.refused middle terms.new) formula.now tuple.now (E.rows terms.old) (E.limit terms.old)) }
 {
     let mut numbers = Vec::new(alloc);
     for n in 0..formula.rows() {
-        let number = enter_row(alloc, terms, formula, reached[n as usize], &numbers)?;
+        let number = enter_row(alloc, terms, formula, tuple, reached[n as usize], &numbers)?;
         push_number(&mut numbers, number)?;
     }
     Ok(numbers)

@@ -104,15 +104,15 @@ impl FormulaTable {
         terms: &mut E,
         formula: &Formula,
     ) -> Result<u32, EnterFault>
-        ensures ok { IfOk result (Enters (E.grown terms.old terms.new) formula.now (E.rows terms.old) (E.limit terms.old) self.old self.new) }
-        ensures fault { IfErr result (StopsEntry (E.grown terms.old terms.new) (λ added. (middle : E) × E.grown terms.old middle added × E.refused middle terms.new) formula.now (E.rows terms.old) (E.limit terms.old) self.old) }
+        ensures ok { IfOk result (Enters (E.grown terms.old terms.new) formula.now [] (E.rows terms.old) (E.limit terms.old) self.old self.new) }
+        ensures fault { IfErr result (StopsEntry (E.grown terms.old terms.new) (λ added. (middle : E) × E.grown terms.old middle added × E.refused middle terms.new) formula.now [] (E.rows terms.old) (E.limit terms.old) self.old) }
         ensures err { OnErr result (self.new ≡ self.old) }
     {
         let alloc = self.allocator();
         let root = formula.root();
         let nodes = reached_nodes(alloc, formula, root)?;
         let rows = reached_rows(alloc, formula, root, &nodes)?;
-        let numbers = enter_rows(alloc, terms, formula, &rows)?;
+        let numbers = enter_rows(alloc, terms, formula, &[], &rows)?;
         let number = self.enter_all(formula, &nodes, &numbers)?;
         Ok(number)
     }

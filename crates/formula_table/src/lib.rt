@@ -1,6 +1,7 @@
 //! The table of entered formulas: nodes over terms and earlier nodes, and foralls, by number.
 #![tactic(auto)]
 
+mod body;
 pub mod enter_fault;
 mod enter_foralls;
 mod enter_nodes;
@@ -10,6 +11,7 @@ pub mod node;
 mod reached;
 pub mod table_forall;
 
+pub use body::Body;
 pub use enter_fault::EnterFault;
 pub use formula_table::FormulaTable;
 pub use node::Node;

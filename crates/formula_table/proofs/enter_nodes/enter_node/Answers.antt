@@ -3,7 +3,7 @@ use Rattle.std.proofs.lemmas.List.Elements.{All-contains}
 use Rattle.formula_draft.specs.DraftNode.{parts_of}
 use Rattle.formula_draft.specs.Reach.ReachesNode.{part_of_it}
 use Rattle.formula_table.specs.declared.node.Node.{Node}
-use Rattle.formula_table.proofs.BecomesLaws.{forall_stands}
+use Rattle.formula_table.proofs.BecomesLaws.{over_none, forall_stands}
 use Rattle.formula_table.proofs.StandLaws.{fits_entered}
 use Rattle.formula_table.specs.Formulas.{FitsTable}
 use Rattle.formula_table.specs.InOrder.PutsNext.{nothing}
@@ -25,7 +25,7 @@ put_node-requires c =
     subst (FitsTable c.args.table.now) (sym c.in_ok-node.ensures)
     (fits_entered c.args.formula.now c.args.terms.now c.args.foralls.now c.args.numbers.now c.args.table.now (length c.args.numbers.now) node c.node_at-node.ensures (c.requires.reached.0 c.if-not-reached.false)
     (λ part named. c.requires.stand part (All-contains (λ p. p < length c.args.numbers.now) (parts_of node) part fits.parts_stand named) (part_of_it (c.requires.reached.0 c.if-not-reached.false) c.node_at-node.ensures named))
-    (λ index reach. c.requires.foralls_stand index (forall_stands c.args.formula.now c.requires.formula index reach) reach))
+    (λ index reach. c.requires.foralls_stand index (forall_stands c.args.formula.now 0 (over_none c.args.formula.now c.requires.formula) index reach) reach))
 
 pub returns-in_err-number-clause-fault : goal.returns-in_err-number-clause-fault
 returns-in_err-number-clause-fault c =

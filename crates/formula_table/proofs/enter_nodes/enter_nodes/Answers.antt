@@ -3,6 +3,7 @@ use Rattle.std.proofs.lemmas.Option.{slice_get-get_or, same_Some}
 use Rattle.formula_draft.specs.Reach.{ReachesNode}
 use Rattle.formula_table.specs.EntryInside.{NodeGrows, StopsNode, StopsNodes}
 use Rattle.formula_table.proofs.EntryLemmas.{err_map}
+use Rattle.formula_table.proofs.BecomesLaws.{over_none}
 use Rattle.formula_table.proofs.NodeLemmas.{NodesSoFar, nodes_none, nodes_next, nodes_stopped}
 use Rattle.formula_table.proofs.enter_nodes.enter_nodes.Goals as goal
 
@@ -33,7 +34,7 @@ pub loop-n-preserved : goal.loop-n-preserved
 loop-n-preserved c =
     let step = subst (λ (numbers : List ℕ). NodeGrows c.args.formula.now c.args.terms.now c.args.foralls.now numbers c.loop-n.table c.enter_node.new.table c.in_ok-number.number) c.deref.ensures.value c.in_ok-number.ensures.ok in
     subst (λ (numbers : List ℕ). NodesSoFar c.args.formula.now c.args.terms.now c.args.foralls.now c.args.table.now c.enter_node.new.table numbers (c.loop-n.n + 1)) (sym c.in_ok-push_number.ensures)
-    (nodes_next c.args.formula.now c.requires.formula c.args.terms.now c.args.foralls.now c.args.table.now c.loop-n.table c.enter_node.new.table c.loop-n.numbers.items c.in_ok-number.number c.loop-n.n c.loop-n.invariant step)
+    (nodes_next c.args.formula.now 0 (over_none c.args.formula.now c.requires.formula) c.args.terms.now c.args.foralls.now c.args.table.now c.loop-n.table c.enter_node.new.table c.loop-n.numbers.items c.in_ok-number.number c.loop-n.n c.loop-n.invariant step)
 
 pub returns-clause-ok : goal.returns-clause-ok
 returns-clause-ok c =

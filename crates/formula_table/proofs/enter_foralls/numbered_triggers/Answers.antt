@@ -5,11 +5,11 @@ use Rattle.graph_trigger.specs.declared.trigger.Trigger.{Trigger}
 use Rattle.graph_terms.proofs.ListLaws.{take-slice_get}
 use Rattle.formula_table.specs.Entry.{numbered, placed}
 use Rattle.formula_table.proofs.ForallLemmas.{numbered-push}
-use Rattle.formula_table.proofs.enter_foralls.numbered_forall.Goals as goal
+use Rattle.formula_table.proofs.enter_foralls.numbered_triggers.Goals as goal
 
 pub loop-place-preserved : goal.loop-place-preserved
 loop-place-preserved c =
-    let triggers = c.args.new.now.triggers in
+    let triggers = c.args.triggers.now in
     let place = c.loop-place.place in
     let trigger = c.get.result.now in
     let within = slice_get_within triggers place trigger c.get.ensures in
