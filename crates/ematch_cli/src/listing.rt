@@ -1,5 +1,6 @@
 //! The listing of all matches, as a text.
 ghost use Rattle.std.specs.Prelude.{◌≡◌, ◌<◌, ◌++◌, All, length, slice_get, Some, IfOk, OnOk};
+ghost use Rattle.graph_meaning.specs.Match.{AreMatches};
 ghost use Rattle.graph_meaning.specs.Standing.{terms_of, triggers_of};
 ghost use Rattle.graph_trigger.specs.declared.trigger.Trigger.{Trigger};
 ghost use Rattle.em_printing.specs.Names.{names_of};
@@ -95,19 +96,19 @@ fn push_tuples<G: ClassGraph>(
 
 /// Writes the heading of the live trigger with the number, and its matches.
 fn push_trigger(
-    alloc: Global,
     text: &mut Vec<u8>,
     session: &Session,
     graph: &MatchingGraph,
     n: u32,
-) -> Result<(), Memory>
-    requires { n < length (triggers_of graph.now.standing) }
+    tuples: &[Numbers],
+) -> Result<(), AllocError>
+    requires n { n < length (triggers_of graph.now.standing) }
+    requires matches { (trigger : Trigger) → slice_get (triggers_of graph.now.standing) n ≡ Some trigger → AreMatches graph.now.standing trigger tuples.now }
     ensures { OnOk result (Puts (λ added. (trigger : Trigger) × (slice_get (triggers_of graph.now.standing) n ≡ Some trigger) × IsTriggerListing (names_of session.now) graph.now.standing trigger added) text.old.items text.new.items) }
 {
     let _terms = graph.len();
-    let tuples = graph.matches(alloc, n)?;
     push_heading(text, graph.trigger(n), tuples.len())?;
-    push_tuples(text, session, graph, tuples.as_slice())?;
+    push_tuples(text, session, graph, tuples)?;
     Ok(())
 }
 
@@ -121,8 +122,10 @@ fn push_triggers(
     ensures { OnOk result (Puts (AreJoined (IsTriggerListing (names_of session.now) graph.now.standing) (triggers_of graph.now.standing)) text.old.items text.new.items) }
 {
     let _terms = graph.len();
+    let matches = graph.all_matches(alloc)?;
     for n in 0..graph.triggers() {
-        push_trigger(alloc, text, session, graph, n)?;
+        let tuples = matches[n as usize].as_slice();
+        push_trigger(text, session, graph, n, tuples)?;
     }
     Ok(())
 }

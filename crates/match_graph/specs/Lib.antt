@@ -1,3 +1,4 @@
+pub mod AllMatches
 pub mod Gathering
 pub mod GraphInside
 pub mod GraphTerms

@@ -4,21 +4,22 @@ ghost use Rattle.graph_meaning.specs.declared.op.Op.{Op as SpecOp};
 ghost use Rattle.graph_meaning.specs.declared.op.Op.TheVariants.{Live as LiveOp, Pop as PopOp};
 ghost use Rattle.graph_trigger.specs.declared.trigger.Trigger.{Trigger};
 ghost use Rattle.graph_meaning.specs.Lawful.{Allows};
-ghost use Rattle.graph_meaning.specs.Match.{AreMatches};
 ghost use Rattle.graph_meaning.specs.Standing.{terms_of, triggers_of, levels_of};
 ghost use Rattle.graph_meaning.specs.State.{GraphState, first_state, state_after, table_of, IsFullFor};
 ghost use Rattle.graph_terms.specs.Terms.{term_row};
 ghost use Rattle.graph_terms.specs.TermEntry.{AddGrows, AddFails};
 ghost use Rattle.graph_congruence.specs.Operations.{CanTakeBack, taken_back};
+ghost use Rattle.match_graph.specs.AllMatches.{AreAllMatches};
 ghost use Rattle.match_graph.specs.GraphTerms.{with_terms};
 ghost use Rattle.graph_trigger.specs.Trigger.{IsValid};
 
-use crate::matches::matches_of;
+use crate::matches::all_matches_of;
 use graph_congruence::Graph;
 use graph_meaning::{ClassGraph, Front, Op};
-use graph_terms::{Memory, Numbers, TableFault, TermEntry, TermRow};
+use graph_terms::{Memory, TableFault, TermEntry, TermRow};
 use graph_trigger::Trigger;
 use match_forest::CodeForest;
+use match_machine::TupleList;
 use std::alloc::Global;
 use std::marker::Model;
 
@@ -158,12 +159,11 @@ impl MatchingGraph {
         done
     }
 
-    /// All matches of the live trigger with the number, as tuples of leaders in lexicographic order, each once.
-    pub fn matches(&self, alloc: Global, n: u32) -> Result<Vec<Numbers>, Memory>
-        requires { n < length (triggers_of self.now.standing) }
-        ensures { IfOk result (λ tuples. (trigger : Trigger) → slice_get (triggers_of self.now.standing) n ≡ Some trigger → AreMatches self.now.standing trigger tuples.items) }
+    /// For each live trigger all its matches, as tuples of leaders in lexicographic order, each once.
+    pub fn all_matches(&self, alloc: Global) -> Result<Vec<TupleList>, Memory>
+        ensures { IfOk result (λ lists. AreAllMatches self.now.standing lists.items) }
     {
-        matches_of(alloc, &self.forest, &self.graph, n)
+        all_matches_of(alloc, &self.forest, &self.graph)
     }
 }
 

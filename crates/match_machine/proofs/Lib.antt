@@ -5,3 +5,5 @@ pub mod WalkLemmas
 pub mod RunLemmas
 pub mod ValueLemmas
 pub mod ParentLemmas
+pub mod GainLaws
+pub mod GatherLemmas

@@ -5,3 +5,4 @@ pub mod Runs
 pub mod Batch
 pub mod Holds
 pub mod Values
+pub mod Gathered

@@ -6,11 +6,13 @@ pub mod batch;
 mod choices;
 pub mod entry_matches;
 mod found;
+pub mod gather;
 pub mod holds;
 pub mod item;
 pub mod laws;
 pub mod run;
 mod task;
+pub mod tuple_list;
 mod values;
 mod walk;
 
@@ -18,3 +20,4 @@ pub use answer::Answer;
 pub use batch::Batch;
 pub use entry_matches::EntryMatches;
 pub use item::Item;
+pub use tuple_list::TupleList;

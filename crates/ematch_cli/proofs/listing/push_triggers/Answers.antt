@@ -1,4 +1,7 @@
-use Rattle.std.proofs.Common.{arith}
+use Rattle.std.proofs.Common.{◌≡◌, ◌<◌, length, Some, sym, ap, subst, ◌∙◌, arith}
+use Rattle.std.specs.Prelude.{slice_get}
+use Rattle.std.proofs.lemmas.Option.{slice_get-get_or}
+use Rattle.graph_meaning.specs.Match.{AreMatches}
 use Rattle.graph_meaning.specs.Standing.{triggers_of}
 use Rattle.em_printing.specs.Names.{names_of}
 use Rattle.ematch_cli.specs.Listing.{IsTriggerListing}
@@ -7,6 +10,16 @@ use Rattle.ematch_cli.proofs.listing.push_triggers.Goals as goal
 
 pub loop-n-init : goal.loop-n-init
 loop-n-init c = under_way_none (IsTriggerListing (names_of c.args.session.now) c.args.graph.now.standing) (triggers_of c.args.graph.now.standing) c.args.text.now.items
+
+pub push_trigger-requires-clause-matches : goal.push_trigger-requires-clause-matches
+push_trigger-requires-clause-matches c =
+    let standing = c.args.graph.now.standing in
+    let lists = c.in_ok-matches.matches.items in
+    let n = c.loop-n.n in
+    let all = c.in_ok-matches.ensures in
+    let below : n < length lists = omega (arith, c.loop-n-test.true, c.triggers-n-end.ensures, all.each_trigger) in
+    let list : slice_get lists n ≡ Some c.index.result.now = slice_get-get_or lists n c.index.result.now below ∙ ap Some (sym c.index.ensures) in
+    λ trigger has. subst (AreMatches standing trigger) (sym c.as_slice-tuples.ensures) (all.are n trigger c.index.result.now has list)
 
 pub loop-n-preserved : goal.loop-n-preserved
 loop-n-preserved c =
