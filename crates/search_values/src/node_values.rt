@@ -2,8 +2,7 @@
 ghost use Rattle.std.specs.Prelude.{◌≡◌, ℕ, ◌+◌, ◌^◌, ◌<◌, ◌≤◌, length, All, IfOk, IfSome, IfNone, MatchOption, OnOk, OnErr, [], ◌∷◌, ◌++◌};
 ghost use Rattle.formula_truth.specs.declared.truth.Truth.TheVariants.{Unset};
 ghost use Rattle.search_board.specs.declared.kind.Kind.TheVariants.{Leaf};
-ghost use Rattle.search_board.specs.Board.{kind_at, truth_at, places_at};
-ghost use Rattle.search_values.specs.Given.{HasValue, HasPlace, part_of, IsFirstUnit, IsUnit, IsOpen, IsSplit, IsStuck};
+ghost use Rattle.search_values.specs.Given.{HasValue, HasPlace, kind_of, parts_of, part_of, IsFirstUnit, IsUnit, IsOpen, IsSplit, IsStuck};
 ghost use Rattle.search_values.specs.Changes.{SetsLeaf, Asserts, Strikes, EntersNode};
 ghost use Rattle.search_values.specs.Kept.{given_of, no_values, pushed, popped};
 ghost use Rattle.search_values.specs.Entered.{ArePlaces, NoneStruck};
@@ -108,6 +107,36 @@ impl NodeValues {
         })
     }
 
+    /// How many nodes there are.
+    pub fn len(&self) -> u32
+        ensures { result ≡ length self.now.shown.kinds }
+    {
+        self.noted.board.len()
+    }
+
+    /// How many levels are open.
+    pub fn depth(&self) -> usize
+        ensures { result ≡ length self.now.saved }
+    {
+        self.levels.len()
+    }
+
+    /// The kind of a node.
+    pub fn kind(&self, n: u32) -> Kind
+        requires { n < length self.now.shown.kinds }
+        ensures { result ≡ kind_of (given_of self.now) n }
+    {
+        self.noted.board.kind(n)
+    }
+
+    /// How many parts a node has.
+    pub fn parts(&self, n: u32) -> u32
+        requires { n < length self.now.shown.kinds }
+        ensures { result ≡ length (parts_of (given_of self.now) n) }
+    {
+        self.wiring.parts(n)
+    }
+
     /// The value of a node.
     pub fn value(&self, n: u32) -> Truth
         requires { n < length self.now.shown.kinds }
@@ -169,8 +198,8 @@ impl NodeValues {
     /// Gives a leaf a value, with all that follows. A refusal is want of memory, and all is as before then.
     pub fn set_leaf(&mut self, n: u32, truth: Truth) -> Result<(), AllocError>
         requires stands { n < length self.old.shown.kinds }
-        requires leaf { kind_at self.old.shown n ≡ Leaf }
-        requires unset { truth_at self.old.shown n ≡ Unset }
+        requires leaf { kind_of (given_of self.old) n ≡ Leaf }
+        requires unset { HasValue (given_of self.old) n Unset }
         ensures ok { OnOk result (SetsLeaf n truth (given_of self.old) (given_of self.new)) }
         ensures err { OnErr result (self.new ≡ self.old) }
         ensures saved { self.new.saved ≡ self.old.saved }

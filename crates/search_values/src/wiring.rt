@@ -75,6 +75,14 @@ impl Wiring {
         self.parts.len() as u32
     }
 
+    /// How many parts a node has.
+    pub fn parts(&self, n: u32) -> u32
+        requires { n < length self.now.parts }
+        ensures { result ≡ length (parts_at self.now n) }
+    {
+        self.parts[n as usize].len()
+    }
+
     /// Of how many places a node is the part.
     pub fn ups(&self, n: u32) -> u32
         requires { n < length self.now.parts }
