@@ -1,0 +1,5 @@
+pub mod Values
+pub mod Places
+pub mod Board
+pub mod BoardInside
+pub mod Undo

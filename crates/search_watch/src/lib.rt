@@ -1,0 +1,19 @@
+//! Which literals may have another value after unions of classes or after one more difference.
+//!
+//! A literal is an equation of two terms, or an atom, which is an equation of a term and true or false. [`Watch`] goes
+//! through listed unions and finds what to look at; [`equation_value`] and [`atom_value`] say what is known of one;
+//! the laws in [`laws`] say that what was found is enough.
+#![tactic(auto)]
+
+pub mod chain;
+pub mod chains;
+pub mod evaluate;
+pub mod laws;
+pub mod link;
+pub mod watch;
+
+pub use chain::Chain;
+pub use chains::Chains;
+pub use evaluate::{atom_value, equation_value};
+pub use link::Link;
+pub use watch::Watch;
