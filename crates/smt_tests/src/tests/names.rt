@@ -112,11 +112,11 @@ fn has_name(state: &SessionState, name: &[u8]) -> bool {
 }
 
 /// The refusal of a step that was refused.
-fn refusal<T: Drop>(step: Result<T, Stop>) -> Option<Refusal> {
+fn refusal<T: Drop>(step: Result<T, Stop>) -> Result<Option<Refusal>, Memory> {
     match step {
-        Ok(_) => None,
-        Err(Stop::Memory) => Some(Refusal::Memory),
-        Err(Stop::Refused(fault)) => Some(fault.refusal),
+        Ok(_) => Ok(None),
+        Err(Stop::Memory) => Err(Memory),
+        Err(Stop::Refused(fault)) => Ok(Some(fault.refusal)),
     }
 }
 
@@ -152,11 +152,11 @@ fn clearing_keeps_the_option_and_a_reset_does_not(rt: HostRuntime) -> Result<(),
     Ok(())
 }
 
-fn function_refusal(state: &SessionState, name: &[u8]) -> Option<Refusal> {
+fn function_refusal(state: &SessionState, name: &[u8]) -> Result<Option<Refusal>, Memory> {
     refusal(state.check_function_name(Kind::Symbol, HERE, name))
 }
 
-fn sort_refusal(state: &SessionState, name: &[u8]) -> Option<Refusal> {
+fn sort_refusal(state: &SessionState, name: &[u8]) -> Result<Option<Refusal>, Memory> {
     refusal(state.check_sort_name(Kind::Symbol, HERE, name))
 }
 
@@ -165,30 +165,33 @@ fn names_are_refused_for_the_first_reason(rt: HostRuntime) -> Result<(), Fail> {
     let state = declared(rt.alloc())?;
     let bad = Some(Refusal::BadForm);
     let again = Some(Refusal::AlreadyDeclared);
-    assert_eq!(rt; function_refusal(&state, b"g".as_slice()), None);
-    assert_eq!(rt; function_refusal(&state, b"f".as_slice()), again);
-    assert_eq!(rt; function_refusal(&state, b"par".as_slice()), bad);
-    assert_eq!(rt; function_refusal(&state, b"@g".as_slice()), bad);
-    assert_eq!(rt; sort_refusal(&state, b"f".as_slice()), None);
-    assert_eq!(rt; sort_refusal(&state, b"U".as_slice()), again);
+    assert_eq!(rt; function_refusal(&state, b"g".as_slice())?, None);
+    assert_eq!(rt; function_refusal(&state, b"f".as_slice())?, again);
+    assert_eq!(rt; function_refusal(&state, b"par".as_slice())?, bad);
+    assert_eq!(rt; function_refusal(&state, b"@g".as_slice())?, bad);
+    assert_eq!(rt; sort_refusal(&state, b"f".as_slice())?, None);
+    assert_eq!(rt; sort_refusal(&state, b"U".as_slice())?, again);
     Ok(())
 }
 
 /// The refusals of a sort, and of one other than Bool.
-fn token_refusals(state: &SessionState, name: &[u8]) -> (Option<Refusal>, Option<Refusal>) {
-    let any = refusal(state.sort_of_token(Kind::Symbol, HERE, name));
-    let other = refusal(state.other_sort_of_token(Kind::Symbol, HERE, name));
-    (any, other)
+fn token_refusals(
+    state: &SessionState,
+    name: &[u8],
+) -> Result<(Option<Refusal>, Option<Refusal>), Memory> {
+    let any = refusal(state.sort_of_token(Kind::Symbol, HERE, name))?;
+    let other = refusal(state.other_sort_of_token(Kind::Symbol, HERE, name))?;
+    Ok((any, other))
 }
 
 #[test]
 fn bool_is_a_sort_and_no_other_sort(rt: HostRuntime) -> Result<(), Fail> {
     let state = declared(rt.alloc())?;
-    let (any, other) = token_refusals(&state, b"Bool".as_slice());
+    let (any, other) = token_refusals(&state, b"Bool".as_slice())?;
     assert_eq!(rt; any, None);
     assert_eq!(rt; other, Some(Refusal::NotInProfile));
     let name = check_lawful_name(rt.alloc(), Kind::Keyword, HERE, b":g".as_slice());
-    assert_eq!(rt; refusal(name), Some(Refusal::BadForm));
+    assert_eq!(rt; refusal(name)?, Some(Refusal::BadForm));
     assert!(rt; is_keyword(Kind::Keyword));
     assert!(rt; is_numeral(Kind::Numeral));
     Ok(())
