@@ -20,10 +20,6 @@ sizes_after sizes (next ∷ rows) = sizes_after (sizes ++ suc (sum_by (λ arg. g
 abbrev pub size_of : List DraftRow → ℕ → ℕ
 size_of rows row = get_or (sizes_after [] rows) row 0
 
--- a size up to 256, and 257 for each greater one
-abbrev pub capped : ℕ → ℕ
-capped n = cond (nat_le n 256) n 257
-
 -- with these places marked
 abbrev pub marked : List ℕ → List Bool → List Bool
 marked [] marks = marks
