@@ -120,7 +120,7 @@ module _ (scope : Scope) (variables : List ℕ) where
 
     good_free : (word : Word) {name : Named} → IsNamed s name → Good s draft (λ d v. FitsIn s d v) (free_value word name draft)
     good_free word (of_core {c = c}) = good_applied s (signatures_are scope.state.functions is.declared.functions_are) word.place word.place word.text draft sound of_core [] none
-    good_free word (of_function {f = f} place at function) = good_applied s (signatures_are scope.state.functions is.declared.functions_are) word.place word.place word.text draft sound (of_function place at function) [] none
+    good_free word (of_function {f = f} place at function) = good_applied s (signatures_are scope.state.functions is.declared.functions_are) word.place word.place word.text draft sound (of_function {f = f} place at function) [] none
     good_free word (of_definition {d = d} definition) = good_applied s (signatures_are scope.state.functions is.declared.functions_are) word.place word.place word.text draft sound (of_definition definition) [] none
     good_free word of_none = by (is_reserved word.text)
       where
