@@ -184,8 +184,8 @@ place_count n place i marks places before are within is = ⊎_elim
     (λ (le : length first ≤ i). ⊎_elim
     (λ (same : length first ≡ i). sym same)
     (λ (more : length first < i). absurd (by (get_or marks place false) more
-        (omega (arith, within, ap (λ (xs : List ℕ). length xs) split, length-append first (behind (get_or marks place false))))
-        (sym (get_or-append_right first (behind (get_or marks place false)) (length first) i 0 refl le) ∙ sym (ap (λ (xs : List ℕ). get_or xs i 0) split) ∙ is)))
+    (omega (arith, within, ap (λ (xs : List ℕ). length xs) split, length-append first (behind (get_or marks place false))))
+    (sym (get_or-append_right first (behind (get_or marks place false)) (length first) i 0 refl le) ∙ sym (ap (λ (xs : List ℕ). get_or xs i 0) split) ∙ is)))
     (less_or_same (length first) i le))
     (below_or_not i (length first))
   where

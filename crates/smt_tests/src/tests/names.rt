@@ -149,7 +149,10 @@ fn sort_refusal(state: &SessionState, name: &[u8]) -> Result<Option<Refusal>, Me
 fn names_are_refused_for_the_first_reason(rt: HostRuntime) -> Result<(), Fail> {
     let state = declared(rt.alloc())?;
     assert_eq!(rt; function_refusal(&state, b"g")?, None);
-    assert_eq!(rt; function_refusal(&state, b"f")?, Some(Refusal::AlreadyDeclared));
+    assert_eq!(rt;
+        function_refusal(&state, b"f")?,
+        Some(Refusal::AlreadyDeclared)
+    );
     assert_eq!(rt; sort_refusal(&state, b"let")?, Some(Refusal::BadForm));
     Ok(())
 }

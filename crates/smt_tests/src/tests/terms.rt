@@ -75,7 +75,13 @@ fn forall_so(rows: u32, nodes: u32, forall: &DraftForall) -> Came {
         return Came::Other;
     }
     let patterns = first.roots.len();
-    Forall(rows, nodes, forall.triggers.len(), patterns, first_symbol(first))
+    Forall(
+        rows,
+        nodes,
+        forall.triggers.len(),
+        patterns,
+        first_symbol(first),
+    )
 }
 
 /// What comes of the tree at the beginning of a command.
@@ -123,7 +129,10 @@ fn check(rt: &impl Abort, alloc: Global, rows: &[(&'static str, Came)]) -> Resul
 }
 
 const FORALLS: &[(&str, Came)] = &[
-    ("(forall ((x U)) (! (p x) :pattern ((p x))))", Forall(2, 3, 1, 1, 2)),
+    (
+        "(forall ((x U)) (! (p x) :pattern ((p x))))",
+        Forall(2, 3, 1, 1, 2),
+    ),
     (
         "(forall ((x U) (y U)) (! (= (g x (f y)) x) :pattern ((f x) (f y)) :pattern ((g x (f y)))))",
         Forall(5, 3, 2, 2, 3),
@@ -144,13 +153,34 @@ fn foralls_have_their_triggers_in_order(rt: HostRuntime) -> Result<(), Fail> {
 }
 
 const FAULTS: &[(&str, Came)] = &[
-    ("(forall ((x U)) (p x))", Refused(Refusal::NotInProfile, 2, 0)),
-    ("(forall ((x U)) (! (f x) :pattern ((p x))))", Refused(Refusal::WrongSort, 20, 0)),
-    ("(forall ((x U)) (! (p x) :pattern))", Refused(Refusal::BadForm, 26, 0)),
-    ("(forall ((x U)) (! (p x) :pattern :named n))", Refused(Refusal::BadForm, 26, 0)),
-    ("(forall ((x U)) (! (p x) :pattern x))", Refused(Refusal::BadForm, 35, 0)),
-    ("(forall ((x U)) (! (p x) :pattern ()))", Refused(Refusal::BadForm, 35, 0)),
-    ("(forall ((x U)) (! (p x) :pattern (x)))", Refused(Refusal::PatternIsVariable, 36, 0)),
+    (
+        "(forall ((x U)) (p x))",
+        Refused(Refusal::NotInProfile, 2, 0),
+    ),
+    (
+        "(forall ((x U)) (! (f x) :pattern ((p x))))",
+        Refused(Refusal::WrongSort, 20, 0),
+    ),
+    (
+        "(forall ((x U)) (! (p x) :pattern))",
+        Refused(Refusal::BadForm, 26, 0),
+    ),
+    (
+        "(forall ((x U)) (! (p x) :pattern :named n))",
+        Refused(Refusal::BadForm, 26, 0),
+    ),
+    (
+        "(forall ((x U)) (! (p x) :pattern x))",
+        Refused(Refusal::BadForm, 35, 0),
+    ),
+    (
+        "(forall ((x U)) (! (p x) :pattern ()))",
+        Refused(Refusal::BadForm, 35, 0),
+    ),
+    (
+        "(forall ((x U)) (! (p x) :pattern (x)))",
+        Refused(Refusal::PatternIsVariable, 36, 0),
+    ),
     (
         "(forall ((x U)) (! (p x) :pattern ((not (p x)))))",
         Refused(Refusal::PatternHasConnective, 36, 0),
@@ -159,7 +189,10 @@ const FAULTS: &[(&str, Came)] = &[
         "(forall ((x U)) (! (p x) :pattern ((f x) (= x x))))",
         Refused(Refusal::PatternHasConnective, 42, 0),
     ),
-    ("(forall ((x U)) (! (p x) :pattern ((p x) 3)))", Refused(Refusal::NotInProfile, 42, 0)),
+    (
+        "(forall ((x U)) (! (p x) :pattern ((p x) 3)))",
+        Refused(Refusal::NotInProfile, 42, 0),
+    ),
     (
         "(forall ((x U)) (! (p x) :pattern ((forall ((y U)) (p y)))))",
         Refused(Refusal::NotInProfile, 37, 0),

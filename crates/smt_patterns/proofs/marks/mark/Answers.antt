@@ -16,6 +16,6 @@ returns c marks long are =
     c.in_ok-insert.ensures.items ∙ mark_new c.args.rows c.args.place c.count_below-i.result marks c.args.places.now.items c.if-place-rows.false are
     (c.count_below-i.ensures.is marks c.args.rows (omega (arith, c.if-place-rows.false)) (c.as_slice.ensures.value ∙ are)) (omega (arith, long, c.if-place-rows.false))
     (elim c.else-i-len.branch [
-      else-i-len-via-then-i-len+else-index-place w ↦ λ within is. w.if-index-place.false (w.index.ensures ∙ get_or_default c.args.places.now.items c.count_below-i.result w.index.result.now 0 within ∙ is)
+      | else-i-len-via-then-i-len+else-index-place w ↦ λ within is. w.if-index-place.false (w.index.ensures ∙ get_or_default c.args.places.now.items c.count_below-i.result w.index.result.now 0 within ∙ is)
       | else-i-len-via-else-i-len w ↦ λ within is. absurd (omega (arith, within, c.len.ensures, w.if-i-len.false))
     ])

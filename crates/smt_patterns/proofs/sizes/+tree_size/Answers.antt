@@ -17,7 +17,7 @@ pub loop-i-preserved : goal.loop-i-preserved
 loop-i-preserved t c =
     let is : slice_get c.args.draft.now.rows c.args.row ≡ Some (App c.in-App.symbol c.in-App.args) = c.row_at.ensures ∙ ap Some c.in-App.is in
     elim c.if-part-row.branch [
-      then-part-row+in_ok-size-in-App w ↦ record {
+      | then-part-row+in_ok-size-in-App w ↦ record {
         is = w.size-is ∙ size_more c.args.draft.now.rows c.args.row c.requires c.in-App.symbol c.in-App.args is c.loop-i.i c.loop-i.size c.get-part.result c.get-part.ensures.value c.loop-i.invariant.is w.if-part-row.true w.in_ok-size-in-App.field-0 w.in_ok-size-in-App.ensures.is;
         fits = omega (arith, w.size-is, c.loop-i.invariant.fits, w.in_ok-size-in-App.ensures.fits);
       }
