@@ -56,7 +56,6 @@ refusal_text refusal.PopTooFar name = codes "pop below the first level"
 refusal_text refusal.LevelsFull name = codes "too many levels"
 refusal_text refusal.TermsFull name = codes "too many terms"
 refusal_text refusal.NodesFull name = codes "too many formula nodes"
-refusal_text refusal.Memory name = []
 
 -- the line of a command that is refused, at the place of the refusal
 abbrev pub refusal_line : SyntaxFault → List ℕ

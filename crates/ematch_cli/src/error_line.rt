@@ -105,7 +105,6 @@ fn refusal_text(alloc: Global, refusal: Refusal, name: &[u8]) -> Result<Vec<u8>,
         Refusal::LevelsFull => Vec::from_slice(alloc, b"too many levels"),
         Refusal::TermsFull => Vec::from_slice(alloc, b"too many terms"),
         Refusal::NodesFull => Vec::from_slice(alloc, b"too many formula nodes"),
-        Refusal::Memory => Vec::from_slice(alloc, b""),
     }
 }
 

@@ -2,7 +2,8 @@
 use Rattle.std.specs.Prelude.{◌≡◌, ℕ, ◌<◌, ◌≤◌, List, [], ◌∷◌, ◌++◌}
 use Rattle.std.specs.Prelude.{length, slice_get, Option, Some, None, option_map, All}
 use Rattle.graph_trigger.specs.declared.trigger.Trigger.{Trigger}
-use Rattle.graph_trigger.specs.Trigger.{IsValid}
+use Rattle.graph_terms.specs.Terms.{most_args}
+use Rattle.graph_trigger.specs.Trigger.{IsValid, most_variables}
 use Rattle.formula_draft.specs.declared.draft_row.DraftRow.{DraftRow}
 use Rattle.formula_draft.specs.declared.draft_row.DraftRow.TheVariants.{Var}
 use Rattle.formula_draft.specs.declared.draft_node.DraftNode.{DraftNode}
@@ -63,10 +64,10 @@ RefusesNode put RowsFull = ⊥
 RefusesNode put NodesFull = put ≡ None
 RefusesNode put Memory = Unit {0}
 
--- the arguments of the row stand, and are at most 255
+-- the arguments of the row stand, and are no more than a row may have
 pub record FitsRow (rows : ℕ) (row : DraftRow) : Type 0 where
   pub args : All (λ arg. arg < rows) (args_of row)
-  pub few : length (args_of row) ≤ 255
+  pub few : length (args_of row) ≤ most_args
 
 -- the rows, parts and foralls of the node stand
 pub record FitsNode (rows nodes foralls : ℕ) (node : DraftNode) : Type 0 where
@@ -81,7 +82,7 @@ pub record FitsTrigger (variables : ℕ) (trigger : Trigger) : Type 0 where
 
 -- the body stands, reaches no forall and no variable that the forall doesn't have, and the triggers fit
 pub record FitsForall (rows : List DraftRow) (nodes : List DraftNode) (new : DraftForall) : Type 0 where
-  pub few_variables : new.variables ≤ 32
+  pub few_variables : new.variables ≤ most_variables
   pub body_stands : new.body < length nodes
   pub no_forall : (n index : ℕ) → ReachesNode nodes new.body n → slice_get nodes n ≡ Some (Forall index) → ⊥
   pub below : (row index : ℕ) → ReachesRow rows nodes new.body row → slice_get rows row ≡ Some (Var index) →

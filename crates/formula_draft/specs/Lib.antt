@@ -4,3 +4,4 @@ pub mod DraftNode
 pub mod Reach
 pub mod Draft
 pub mod DraftInside
+pub mod Sorted

@@ -12,6 +12,7 @@ use crate::connected::put_connected;
 use crate::forms::put_application;
 use crate::moved::put_unfolded;
 use crate::parts::values_of;
+use crate::site::Site;
 use formula_draft::FormulaDraft;
 use smt_names::{Arg, Connective, Definition, Head, Refusal, SessionState, Signature, Stop, Value};
 use smt_text::Place;
@@ -76,17 +77,16 @@ fn check_definition(
 fn apply_core(
     alloc: Global,
     draft: &mut FormulaDraft,
-    at: Place,
-    head: Place,
+    site: Site,
     called: &[u8],
     connective: Connective,
     args: &[Arg],
 ) -> Result<Value, Stop>
-    ensures { Makes result draft.old draft.new (applied at head called.now (Core connective) args.now) }
+    ensures { Makes result draft.old draft.new (applied site.at site.head called.now (Core connective) args.now) }
 {
-    check_core(alloc, connective, head, called, args)?;
+    check_core(alloc, connective, site.head, called, args)?;
     let values = values_of(alloc, args)?;
-    put_connected(alloc, draft, at, connective, &values)
+    put_connected(alloc, draft, site.at, connective, &values)
 }
 
 /// A declared function with its arguments.
@@ -94,18 +94,17 @@ fn apply_core(
 fn apply_function(
     alloc: Global,
     draft: &mut FormulaDraft,
-    at: Place,
-    head: Place,
+    site: Site,
     called: &[u8],
     symbol: u32,
     signature: &Signature,
     args: &[Arg],
 ) -> Result<Value, Stop>
-    ensures { Makes result draft.old draft.new (applied at head called.now (Function symbol (declared_as [] signature.now)) args.now) }
+    ensures { Makes result draft.old draft.new (applied site.at site.head called.now (Function symbol (declared_as [] signature.now)) args.now) }
 {
-    check_function(alloc, symbol, signature, head, called, args)?;
+    check_function(alloc, symbol, signature, site.head, called, args)?;
     let values = values_of(alloc, args)?;
-    put_application(alloc, draft, at, symbol, signature.sort, &values)
+    put_application(alloc, draft, site.at, symbol, signature.sort, &values)
 }
 
 /// A name that stands for nothing takes no number of arguments.
@@ -113,17 +112,16 @@ fn apply_function(
 fn apply_unknown(
     alloc: Global,
     draft: &mut FormulaDraft,
-    at: Place,
-    head: Place,
+    site: Site,
     called: &[u8],
     args: &[Arg],
 ) -> Result<Value, Stop>
-    ensures { Makes result draft.old draft.new (applied at head called.now names.Unknown args.now) }
+    ensures { Makes result draft.old draft.new (applied site.at site.head called.now names.Unknown args.now) }
 {
     let _rows = draft.rows();
     let _args = args.len();
-    let _line = at.line;
-    Err(Stop::of_name(alloc, Refusal::WrongArity, head, called))
+    let _line = site.at.line;
+    Err(Stop::of_name(alloc, Refusal::WrongArity, site.head, called))
 }
 
 /// The declared function at a place with its arguments.
@@ -131,26 +129,18 @@ fn apply_function_at(
     alloc: Global,
     draft: &mut FormulaDraft,
     state: &SessionState,
-    at: Place,
-    head: Place,
+    site: Site,
     called: &[u8],
     index: u32,
     args: &[Arg],
 ) -> Result<Value, Stop>
-    ensures { Makes result draft.old draft.new (applied at head called.now (named_by state.now (Head.Function index)) args.now) }
+    ensures { Makes result draft.old draft.new (applied site.at site.head called.now (named_by state.now (Head.Function index)) args.now) }
 {
     match state.signature(index) {
-        None => apply_unknown(alloc, draft, at, head, called, args),
-        Some(signature) => apply_function(
-            alloc,
-            draft,
-            at,
-            head,
-            called,
-            index + 2,
-            signature,
-            args,
-        ),
+        None => apply_unknown(alloc, draft, site, called, args),
+        Some(signature) => {
+            apply_function(alloc, draft, site, called, index + 2, signature, args)
+        }
     }
 }
 
@@ -159,17 +149,16 @@ fn apply_function_at(
 fn apply_definition(
     alloc: Global,
     draft: &mut FormulaDraft,
-    at: Place,
-    head: Place,
+    site: Site,
     called: &[u8],
     definition: &Definition,
     args: &[Arg],
 ) -> Result<Value, Stop>
-    ensures { Makes result draft.old draft.new (applied at head called.now (names.Definition (defined_as [] definition.now)) args.now) }
+    ensures { Makes result draft.old draft.new (applied site.at site.head called.now (names.Definition (defined_as [] definition.now)) args.now) }
 {
-    check_definition(alloc, definition, head, called, args)?;
+    check_definition(alloc, definition, site.head, called, args)?;
     let values = values_of(alloc, args)?;
-    put_unfolded(alloc, draft, at, definition, &values)
+    put_unfolded(alloc, draft, site.at, definition, &values)
 }
 
 /// The definition at a place with its arguments.
@@ -177,47 +166,44 @@ fn apply_definition_at(
     alloc: Global,
     draft: &mut FormulaDraft,
     state: &SessionState,
-    at: Place,
-    head: Place,
+    site: Site,
     called: &[u8],
     index: u32,
     args: &[Arg],
 ) -> Result<Value, Stop>
-    ensures { Makes result draft.old draft.new (applied at head called.now (named_by state.now (Head.Definition index)) args.now) }
+    ensures { Makes result draft.old draft.new (applied site.at site.head called.now (named_by state.now (Head.Definition index)) args.now) }
 {
     match state.definition(index) {
-        None => apply_unknown(alloc, draft, at, head, called, args),
-        Some(definition) => apply_definition(alloc, draft, at, head, called, definition, args),
+        None => apply_unknown(alloc, draft, site, called, args),
+        Some(definition) => apply_definition(alloc, draft, site, called, definition, args),
     }
 }
 
 /// Puts a name with its arguments, where their number, their sorts and their complements are right.
 ///
-/// `name` is what the head stands for, `head` its place and `called` its text. What is put has the place `at`, that of the list
-/// or token. A wrong number is refused at the head with its text, then the first argument of another sort at its place, then
+/// `name` is what the head stands for, and `called` its text. What is put has the place `site.at`. A wrong number is refused at the head with its text, then the first argument of another sort at its place, then
 /// branches of `ite` that are no formulas at the head, then the first argument that lacks a complement which the form needs at its
-/// place, and last a row or node that there is no room for at `at`. After an error the formula is of no further use: some of its
+/// place, and last a row or node that there is no room for at `site.at`. After an error the formula is of no further use: some of its
 /// rows and nodes may have been put.
 pub fn apply(
     alloc: Global,
     draft: &mut FormulaDraft,
     state: &SessionState,
-    at: Place,
-    head: Place,
+    site: Site,
     called: &[u8],
     name: Head,
     args: &[Arg],
 ) -> Result<Value, Stop>
-    ensures { Makes result draft.old draft.new (applied at head called.now (named_by state.now name) args.now) }
+    ensures { Makes result draft.old draft.new (applied site.at site.head called.now (named_by state.now name) args.now) }
 {
     match name {
-        Head::Core(connective) => apply_core(alloc, draft, at, head, called, connective, args),
+        Head::Core(connective) => apply_core(alloc, draft, site, called, connective, args),
         Head::Function(index) => {
-            apply_function_at(alloc, draft, state, at, head, called, index, args)
+            apply_function_at(alloc, draft, state, site, called, index, args)
         }
         Head::Definition(index) => {
-            apply_definition_at(alloc, draft, state, at, head, called, index, args)
+            apply_definition_at(alloc, draft, state, site, called, index, args)
         }
-        Head::Unknown => apply_unknown(alloc, draft, at, head, called, args),
+        Head::Unknown => apply_unknown(alloc, draft, site, called, args),
     }
 }

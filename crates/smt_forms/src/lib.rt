@@ -12,6 +12,8 @@ mod ite;
 mod moved;
 mod parts;
 mod put;
+mod site;
 
 pub use applied::apply;
 pub use put::{put_node, put_row};
+pub use site::Site;

@@ -15,8 +15,9 @@ use Rattle.smt_names.specs.Making.{made, want_named}
 use Rattle.smt_names.specs.Names.{Declared, Defined, Named, Core, Function, Definition, Unknown}
 use Rattle.smt_forms.specs.Nodes.{both, connected, application}
 use Rattle.smt_forms.specs.Applied.{has_number, values_of, sort_at, wanted, right_sorts, right_branches, needs, has_needed, right_complements, complements_for, checked, entered, applied}
-use Rattle.smt_laws.specs.Sorted.{HaveSorts}
-use Rattle.smt_laws.specs.Sound.{IsFunction, IsDefinition}
+use Rattle.formula_draft.specs.Sorted.{Signature, HaveSorts}
+use Rattle.smt_laws.specs.Sorted.{as_signature}
+use Rattle.smt_laws.specs.Sound.{AreArguments, IsFunction, IsDefinitionOver}
 use Rattle.smt_laws.proofs.Growing.{Extends, extends_itself}
 use Rattle.smt_laws.proofs.Making.{Setting, Sort, Sorts, Sound, Good, makes, refuses, good_then, good_made, good_want, good_as}
 use Rattle.smt_laws.proofs.Values.{FitsIn, Both, IsFormula, fits_later, formula_of, term_of, swapped_fits, good_both, Each, none, more, each_map}
@@ -205,7 +206,7 @@ module _ (s : Setting) where
         HaveSorts.more (term_of s d arg.value sort (eq_from (sort_of arg.value) sort right.0) (All-head (λ k. 1 ≤ k) sort sorts others) fits)
         (rows_sorted sorts args (omega (arith, same)) (All-tail (λ k. 1 ≤ k) sort sorts others) right.1 rest)
 
-  good_applied_function : (at : Place) (draft : Draft) → Sound s draft → (place : ℕ) (f : Declared) (parts : List Value) → slice_get s.functions place ≡ Some f → IsFunction f → Sorts s draft (map row_of parts) f.arguments
+  good_applied_function : (at : Place) (draft : Draft) → Sound s draft → (place : ℕ) (f : Signature) (parts : List Value) → slice_get s.functions place ≡ Some f → AreArguments f.arguments → Sorts s draft (map row_of parts) f.arguments
       → Good s draft (λ d v. FitsIn s d v) (application at (place + 2) f.sort parts draft)
   good_applied_function at draft sound place f parts is function sorted = good_then s draft _ (good_application s at draft sound place f (map row_of parts) is function sorted) λ r d keeps extends has. by r d keeps has (f.sort == 0) refl
     where
@@ -216,15 +217,15 @@ module _ (s : Setting) where
   -- what stands under a name is declared
   pub data IsNamed : Named → Type 0 where
     of_core : {c : Connective} → IsNamed (Core c)
-    of_function : {f : Declared} (place : ℕ) → slice_get s.functions place ≡ Some f → IsFunction f → IsNamed (Function (place + 2) f)
-    of_definition : {d : Defined} → IsDefinition s.functions d → IsNamed (Definition d)
+    of_function : {f : Declared} (place : ℕ) → slice_get s.functions place ≡ Some (as_signature f) → IsFunction f → IsNamed (Function (place + 2) f)
+    of_definition : {d : Defined} → IsDefinitionOver s.functions d → IsNamed (Definition d)
     of_none : IsNamed Unknown
 
-  module _ (functions_are : (n : ℕ) (f : Declared) → slice_get s.functions n ≡ Some f → IsFunction f) where
+  module _ (functions_are : (n : ℕ) (f : Signature) → slice_get s.functions n ≡ Some f → AreArguments f.arguments) where
     good_entered : (at : Place) (draft : Draft) → Sound s draft → {name : Named} → IsNamed name → (args : List Arg) → Passes name args → Each (FitsArg draft) args → Good s draft (λ d v. FitsIn s d v) (entered at name (values_of args) draft)
     good_entered at draft sound (of_core {c = c}) args passes fit = good_connected at draft sound c (values_of args) (facts_of draft c args passes fit)
     good_entered at draft sound (of_function {f = f} place is function) args passes fit =
-        good_applied_function at draft sound place f (values_of args) is function (rows_sorted draft f.arguments args (eq_from (length args) (length f.arguments) passes.number) function.others passes.sorts_are fit)
+        good_applied_function at draft sound place (as_signature f) (values_of args) is function (rows_sorted draft f.arguments args (eq_from (length args) (length f.arguments) passes.number) function.others passes.sorts_are fit)
     good_entered at draft sound (of_definition {d = d} is) args passes fit =
         good_unfolded s at functions_are d is draft sound (values_of args) (rows_sorted draft d.parameters args (eq_from (length args) (length d.parameters) passes.number) is.others passes.sorts_are fit)
     good_entered at draft sound of_none args passes fit = refuses

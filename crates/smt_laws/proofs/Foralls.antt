@@ -4,7 +4,7 @@ use Rattle.std.proofs.lemmas.Option.{none-some, same_Some, slice_get_within, sli
 use Rattle.std.proofs.lemmas.List.Elements.{All-nil, All-cons, All-append, All-weaker}
 use Rattle.graph_terms.proofs.ListLaws.{slice_get-push, All-slice_get}
 use Rattle.graph_trigger.specs.declared.trigger.Trigger.{Trigger}
-use Rattle.graph_trigger.specs.Trigger.{IsValid}
+use Rattle.graph_trigger.specs.Trigger.{IsValid, most_size}
 use Rattle.smt_text.specs.declared.token.Place.{Place}
 use Rattle.formula_draft.specs.declared.draft_row.DraftRow.{DraftRow}
 use Rattle.formula_draft.specs.declared.draft_row.DraftRow.TheVariants.{Var, App}
@@ -23,13 +23,14 @@ use Rattle.smt_names.specs.declared.refusal.Refusal.{Refusal}
 use Rattle.smt_names.specs.declared.refusal.Refusal.TheVariants as refusal
 use Rattle.smt_names.specs.Value.{sort_of, self, has_complement}
 use Rattle.smt_names.specs.Making.{Making, made, ◌>>◌, node, put_forall}
-use Rattle.smt_names.specs.Names.{State, Scope, Declared}
+use Rattle.smt_names.specs.Names.{State, Scope}
 use Rattle.smt_patterns.specs.Patterns.{size_of, trigger_of, occurs}
 use Rattle.smt_patterns.specs.Roots.{positive_row, atom_row, no_variable, root_of, small_root}
 use Rattle.smt_patterns.specs.Triggers.{each_occurs, rooted_trigger}
 use Rattle.smt_terms.specs.Meant.{Meant, End, Token, Group, from, no_more, at_least, Listed, no_binding, attributes_of}
 use Rattle.smt_terms.specs.Terms.{token_value, variables_from, Attribute, attribute_if, is_pattern_key, patterns_in, Body, is_annotation, body_of, pattern_root, add_root, pattern_roots, pattern_list, trigger, triggers, some_trigger, inside_of, quantified, body_forall, bound_forall, checked_forall, forall_value}
-use Rattle.smt_laws.specs.Sorted.{HasSort, IsPlain, IsTruth, IsSortedTrigger}
+use Rattle.formula_draft.specs.Sorted.{Signature, HasSort, IsPlain, IsTruth, IsSortedTrigger}
+use Rattle.smt_laws.specs.Sorted.{signatures_of}
 use Rattle.smt_laws.specs.Sound.{Fits}
 use Rattle.smt_laws.proofs.Standing.{Stood, may_hold, IsScope}
 use Rattle.smt_terms.specs.Scopes.{sorts_of}
@@ -66,7 +67,7 @@ again [] x ys = refl
 again (y ∷ xs) x ys = ap (λ zs. y ∷ zs) (again xs x ys)
 
 -- each of them stands for the variable at its index
-pub stand_of : (functions : List Declared) (universal : Bool) (draft : Draft) (front : List ℕ) {index : ℕ} {bound : List Bound} → length front ≡ index → AreVariables index bound
+pub stand_of : (functions : List Signature) (universal : Bool) (draft : Draft) (front : List ℕ) {index : ℕ} {bound : List Bound} → length front ≡ index → AreVariables index bound
     → All (λ (b : Bound). Stood functions (front ++ sorts_of bound) universal draft b.stands) bound
 stand_of functions universal draft front same no_more_variables = All-nil (λ (b : Bound). Stood functions (front ++ []) universal draft b.stands)
 stand_of functions universal draft front {index} same (variable_first {sort = sort} {name = name} {bound = bound} some rest) =
@@ -157,7 +158,7 @@ abbrev positive : DraftNode → Bool
 positive (Atom p r) = p
 positive x = false
 
-atom_of : {functions : List Declared} {variables : List ℕ} {rows : List DraftRow} {nodes : List DraftNode} (n r : ℕ) → slice_get nodes n ≡ Some (Atom true r) → IsPlain functions variables rows nodes n → HasSort functions variables rows r 0
+atom_of : {functions : List Signature} {variables : List ℕ} {rows : List DraftRow} {nodes : List DraftNode} (n r : ℕ) → slice_get nodes n ≡ Some (Atom true r) → IsPlain functions variables rows nodes n → HasSort functions variables rows r 0
 atom_of n r at (IsPlain.equation {left = left} {right = right} {positive = p} stands other x y) = absurd (other_kind (same_Some (Atom true r) (Equal p left right) (sym at ∙ stands)))
   where
     other_kind : ◌≡◌ {A = DraftNode} (Atom true r) (Equal p left right) → ⊥
@@ -224,14 +225,14 @@ module _ (s : Setting) (others : All (λ sort. 1 ≤ sort) s.variables) (plain :
     stands = rows_keep old new extends r (App is.symbol is.args) is.stands;
     sort = is.sort;
     sorted = sort_later s old new extends is.sorted;
-    small = subst (λ n. n ≤ 256) (sym (size_later old.rows extends.more_rows new.rows r extends.rows (sort_stands is.sorted))) is.small;
+    small = subst (λ n. n ≤ most_size) (sym (size_later old.rows extends.more_rows new.rows r extends.rows (sort_stands is.sorted))) is.small;
   }
 
   good_small_root : (draft : Draft) (at : Place) (v : Value) → Sound s draft → FitsIn s draft v → Good s draft (λ d k. Root s d k) (small_root at v draft)
   good_small_root draft at v sound fits =
       good_then s draft _ (good_root_of draft at v sound fits) λ r d1 k1 e1 is.
-      good_then s d1 _ (good_want s d1 (nat_le (size_of d1.rows r) 256) refusal.PatternTooLarge at k1) λ _ d2 k2 e2 small.
-      good_made s d2 r k2 (root_later d1 d2 e2 r (record { symbol = is.symbol; args = is.args; stands = is.stands; sort = is.sort; sorted = is.sorted; small = le_from (size_of d1.rows r) 256 small }))
+      good_then s d1 _ (good_want s d1 (nat_le (size_of d1.rows r) most_size) refusal.PatternTooLarge at k1) λ _ d2 k2 e2 small.
+      good_made s d2 r k2 (root_later d1 d2 e2 r (record { symbol = is.symbol; args = is.args; stands = is.stands; sort = is.sort; sorted = is.sorted; small = le_from (size_of d1.rows r) most_size small }))
 
 -- in a forall formulas hold none
 inside_holds_none : (a b : Bool) → a ≡ true → not (a || b) ≡ false
@@ -343,7 +344,7 @@ good_other from_it to_it old partly (makes {new = new} sound extends fits) = mak
 good_other from_it to_it old partly refuses = refuses
 
 -- a value that was made where there are no variables stands where there are some
-module _ (functions : List Declared) (variables : List ℕ) (universal : Bool) (draft : Draft) where
+module _ (functions : List Signature) (variables : List ℕ) (universal : Bool) (draft : Draft) where
   fits_inside : (v : Value) → Fits functions [] universal draft v → Fits functions variables universal draft v
   fits_inside (Term row sort) fits = (sort_kept functions functions (keeps_all functions) draft.rows draft.rows (keeps_all draft.rows) [] variables (keeps_none variables) fits.0, fits.1)
   fits_inside (Formula n None) fits =
@@ -378,14 +379,14 @@ module _ (valid : MakesValid) (scope : Scope) (may : may_hold scope ≡ true) wh
 
     inside_is : (draft : Draft) → IsScope [] draft scope → IsScope (sorts_of bound) draft within
     inside_is draft is =
-        let P : Bound → Type 0 = λ (b : Bound). Stood scope.state.functions (sorts_of bound) (not scope.in_definition) draft b.stands in
+        let P : Bound → Type 0 = λ (b : Bound). Stood (signatures_of scope.state.functions) (sorts_of bound) (not scope.in_definition) draft b.stands in
         record {
           declared = is.declared;
           others = others_of are;
           outside = λ held. absurd (true≢false (sym held));
           bound = All-append P scope.bound bound
-              (All-weaker (λ (b : Bound). Stood scope.state.functions [] (not scope.in_definition) draft b.stands) P (λ b. stood_inside scope.state.functions (sorts_of bound) (not scope.in_definition) draft b.stands) scope.bound is.bound)
-              (stand_of scope.state.functions (not scope.in_definition) draft [] refl are);
+              (All-weaker (λ (b : Bound). Stood (signatures_of scope.state.functions) [] (not scope.in_definition) draft b.stands) P (λ b. stood_inside (signatures_of scope.state.functions) (sorts_of bound) (not scope.in_definition) draft b.stands) scope.bound is.bound)
+              (stand_of (signatures_of scope.state.functions) (not scope.in_definition) draft [] refl are);
         }
 
     -- the body holds no forall
@@ -398,15 +399,15 @@ module _ (valid : MakesValid) (scope : Scope) (may : may_hold scope ≡ true) wh
 
     -- the trigger fits the variables, and its rows have sorts by them
     abbrev FitsInside : Trigger → Type 0
-    FitsInside t = FitsTrigger (length bound) t × IsSortedTrigger scope.state.functions (sorts_of bound) t
+    FitsInside t = FitsTrigger (length bound) t × IsSortedTrigger (signatures_of scope.state.functions) (sorts_of bound) t
 
     forall_fits : (draft : Draft) (body : ℕ) (patterns : List Trigger) → Plain inner draft body → All FitsInside patterns → FitsForall draft.rows draft.nodes (draft_forall (length bound) body patterns)
     forall_fits draft body patterns plain fit = record {
       few_variables = few;
       body_stands = plain_stands plain;
-      no_forall = reaches_no_forall scope.state.functions (sorts_of bound) draft.rows draft.nodes body plain;
+      no_forall = reaches_no_forall (signatures_of scope.state.functions) (sorts_of bound) draft.rows draft.nodes body plain;
       below = λ row index reach at.
-          let had = reached_sorted scope.state.functions (sorts_of bound) draft.rows draft.nodes body plain reach in
+          let had = reached_sorted (signatures_of scope.state.functions) (sorts_of bound) draft.rows draft.nodes body plain reach in
           let stands = slice_get_within (sorts_of bound) index had.0 (variable_of row index had.0 at had.1) in
           omega (arith, stands, count_of bound);
       triggers_fit = All-weaker FitsInside (λ (t : Trigger). FitsTrigger (length bound) t) (λ t both. both.0) patterns fit;
@@ -423,7 +424,7 @@ module _ (valid : MakesValid) (scope : Scope) (may : may_hold scope ≡ true) wh
         (record { more_rows = []; rows = sym (append-nil draft.rows); more_nodes = []; nodes = sym (append-nil draft.nodes); more_foralls = new ∷ []; foralls = refl })
         (slice_get-push draft.foralls new)
 
-    good_forall_node : (paren : Place) (draft : Draft) (index : ℕ) (new : DraftForall) → Sound outer draft → Put draft index new → length (sorts_of bound) ≡ new.variables → Plain inner draft new.body → All (IsSortedTrigger scope.state.functions (sorts_of bound)) new.triggers
+    good_forall_node : (paren : Place) (draft : Draft) (index : ℕ) (new : DraftForall) → Sound outer draft → Put draft index new → length (sorts_of bound) ≡ new.variables → Plain inner draft new.body → All (IsSortedTrigger (signatures_of scope.state.functions) (sorts_of bound)) new.triggers
         → Good outer draft (λ d n. Truth outer d n) (node paren (Forall index) draft)
     unfolding Put
     good_forall_node paren draft index new sound at same plain sorted = good_node outer paren draft sound (Forall index) (λ d n. Truth outer d n)
@@ -441,7 +442,7 @@ module _ (valid : MakesValid) (scope : Scope) (may : may_hold scope ≡ true) wh
         let plain3 = plain_later inner d2 d3 e3 plain2 in
         good_then outer d3 _ (good_put d3 (draft_forall (length bound) (self v) patterns) k3 (forall_fits d3 (self v) patterns plain3 fit)) λ index d4 k4 e4 at.
         let plain4 = plain_later inner d3 d4 e4 plain3 in
-        good_then outer d4 _ (good_forall_node paren d4 index (draft_forall (length bound) (self v) patterns) k4 at (count_of bound) plain4 (All-weaker FitsInside (IsSortedTrigger scope.state.functions (sorts_of bound)) (λ t both. both.1) patterns fit)) λ n d5 k5 e5 truth_is.
+        good_then outer d4 _ (good_forall_node paren d4 index (draft_forall (length bound) (self v) patterns) k4 at (count_of bound) plain4 (All-weaker FitsInside (IsSortedTrigger (signatures_of scope.state.functions) (sorts_of bound)) (λ t both. both.1) patterns fit)) λ n d5 k5 e5 truth_is.
         good_made outer d5 (Formula n None) k5 (truth_is, may)
 
     good_body_forall : (paren head : Place) (draft : Draft) (trees : Meant) → Sound outer draft → IsScope [] draft scope → AllMean GoodMeaning trees → Good outer draft (λ d v. FitsIn outer d v) (body_forall paren head scope bound trees draft)

@@ -10,7 +10,7 @@ use Rattle.smt_names.specs.Value.{sort_of, row_of, self, complement, has_complem
 use Rattle.smt_names.specs.Making.{Making, ◌>>=◌}
 use Rattle.smt_forms.specs.declared.crossed.Crossed.{Crossed}
 use Rattle.smt_forms.specs.Nodes.{selves, all_have_complements, complements, both, true_form, not_form, and_form, or_form, implied, refuted, implies_form, or_of, and_of, crossed, xor_of_two, same_truth, xor_from, xor_form, equal_of_two, neighbours, equal_form, distinct_of_two, distinct_from, distinct_pairs, never, distinct_of_many, distinct_form, ite_complement, ite_of_three, ite_form}
-use Rattle.smt_laws.specs.Sorted.{ArePlain, AreTruths, IsTruth}
+use Rattle.formula_draft.specs.Sorted.{ArePlain, AreTruths, IsTruth}
 use Rattle.smt_laws.proofs.Growing.{Extends}
 use Rattle.smt_laws.proofs.Making.{Setting, Plain, Plains, Truth, Truths, Sound, Good, refuses, plain_later, truth_later, good_then, good_made, good_as}
 use Rattle.smt_laws.proofs.Values.{PlainNode, good_plain, good_truth, FitsIn, Both, IsFormula, Twofold, fits_later, both_later, formula_later, formula_of, term_of, twofold_later, swapped_fits, good_both, good_alone, Each, none, more, each_map, each_append}

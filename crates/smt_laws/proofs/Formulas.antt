@@ -1,6 +1,7 @@
 -- What a term makes of nothing.
 use Rattle.std.proofs.Common.{◌≡◌, ℕ, suc, ◌+◌, ◌<◌, ◌≤◌, ◌==◌, not, Bool, true, false, List, [], ◌++◌, length, slice_get, Some, None, Result, Ok, Err, All, refl, sym, subst, true≢false, arith}
 use Rattle.std.proofs.lemmas.Option.{none-some}
+use Rattle.std.proofs.lemmas.List.{map-append}
 use Rattle.std.proofs.lemmas.List.Elements.{All-nil}
 use Rattle.smt_text.specs.declared.token.Place.{Place}
 use Rattle.formula_draft.specs.declared.draft_node.DraftNode.{DraftNode}
@@ -16,9 +17,10 @@ use Rattle.smt_names.specs.declared.refusal.Refusal.TheVariants as refusal
 use Rattle.smt_names.specs.Value.{self}
 use Rattle.smt_names.specs.Making.{Making, then_from, want}
 use Rattle.smt_terms.specs.Meant.{Meant, Token, Group, first_place, sort_first}
-use Rattle.smt_names.specs.Names.{State, Declared}
+use Rattle.smt_names.specs.Names.{State}
 use Rattle.smt_terms.specs.Terms.{meant, variables_from}
-use Rattle.smt_laws.specs.Sorted.{IsPlain}
+use Rattle.formula_draft.specs.Sorted.{Signature, IsPlain}
+use Rattle.smt_laws.specs.Sorted.{as_signature, signatures_of}
 use Rattle.smt_laws.specs.Sound.{Fits, IsWhole, IsDefinition, inside, AreDeclared}
 use Rattle.smt_laws.proofs.Standing.{Stood, IsScope}
 use Rattle.smt_terms.specs.Scopes.{outside, sorts_of, inside_definition}
@@ -64,7 +66,7 @@ outside_is state draft is = record {
   declared = is;
   others = All-nil (λ sort. 1 ≤ sort);
   outside = λ may. refl;
-  bound = All-nil (λ (b : Bound). Stood state.functions [] true draft b.stands);
+  bound = All-nil (λ (b : Bound). Stood (signatures_of state.functions) [] true draft b.stands);
 }
 
 pub makes_formulas : MakesFormulas
@@ -78,7 +80,7 @@ makes_formulas state missing trees terms nodes v draft is made_so bool =
         lawful = done.sound.draft_is.lawful;
         root_stands = truth_stands truth;
         closed = λ row index reach at.
-            let had = rows_sorted_from state.functions [] draft.rows draft.nodes draft.foralls (self v) truth reach in
+            let had = rows_sorted_from (signatures_of state.functions) [] draft.rows draft.nodes draft.foralls (self v) truth reach in
             none-some had.0 (variable_of row index had.0 at had.1);
       },
       truth,
@@ -89,11 +91,11 @@ definition_scope state parameters draft is are = record {
   declared = is;
   others = others_of are;
   outside = λ may. absurd (true≢false (sym may));
-  bound = stand_of state.functions false draft [] refl are;
+  bound = stand_of (signatures_of state.functions) false draft [] refl are;
 }
 
 -- a lawful draft of plain nodes needs no foralls
-lawful_alone : (functions : List Declared) (variables : List ℕ) (draft : Draft) → IsDraft draft → IsWhole functions variables draft.rows draft.nodes → AreLawful draft.rows draft.nodes []
+lawful_alone : (functions : List Signature) (variables : List ℕ) (draft : Draft) → IsDraft draft → IsWhole functions variables draft.rows draft.nodes → AreLawful draft.rows draft.nodes []
 lawful_alone functions variables draft is whole = record {
   rows_fit = is.lawful.rows_fit;
   rows_once = is.lawful.rows_once;
@@ -150,12 +152,12 @@ makes_definitions state missing bindings before after parameters trees most_rows
     let whole = done.sound.whole refl in
     subst (λ all. IsDefinition state.functions (record { name = name; parameters = all; sort = sort; rows = later.rows; nodes = later.nodes; value = v })) (sym sorts_are) (record {
       others = others_of variables_are;
-      lawful = lawful_alone state.functions variables later done.sound.draft_is whole;
+      lawful = lawful_alone (signatures_of state.functions) variables later done.sound.draft_is whole;
       whole = whole;
       fits = value_fits variables later v done.fits;
     })
   where
-    value_fits : (variables : List ℕ) (draft : Draft) (v : Value) → Fits state.functions variables false draft v → Fits state.functions variables false (record { rows = draft.rows; nodes = draft.nodes; foralls = []; most_rows = length draft.rows; most_nodes = length draft.nodes }) v
+    value_fits : (variables : List ℕ) (draft : Draft) (v : Value) → Fits (signatures_of state.functions) variables false draft v → Fits (signatures_of state.functions) variables false (record { rows = draft.rows; nodes = draft.nodes; foralls = []; most_rows = length draft.rows; most_nodes = length draft.nodes }) v
     value_fits variables draft (Term row sort) fits = fits
     value_fits variables draft (Formula n None) fits = absurd (true≢false (sym fits.1))
     value_fits variables draft (Formula n (Some c)) fits = fits
@@ -166,19 +168,25 @@ keeps_definitions functions more d is = record {
   others = is.others;
   lawful = is.lawful;
   whole = record {
-    rows_sorted = λ n row at. let had = is.whole.rows_sorted n row at in (had.0, sort_kept functions (functions ++ more) keep d.rows d.rows (keeps_all d.rows) d.parameters d.parameters (keeps_all d.parameters) had.1);
+    rows_sorted = λ n row at. let had = is.whole.rows_sorted n row at in (had.0, sort_kept old new keep d.rows d.rows (keeps_all d.rows) d.parameters d.parameters (keeps_all d.parameters) had.1);
     nodes_plain = λ n x at. plain_up (is.whole.nodes_plain n x at);
   };
   fits = value_up d.value is.fits;
 }
   where
-    keep : Keeps functions (functions ++ more)
-    keep = keeps_front functions more (functions ++ more) refl
+    old : List Signature
+    old = signatures_of functions
 
-    plain_up : {n : ℕ} → IsPlain functions d.parameters d.rows d.nodes n → IsPlain (functions ++ more) d.parameters d.rows d.nodes n
-    plain_up plain = plain_kept functions (functions ++ more) keep d.rows d.rows (keeps_all d.rows) d.nodes d.nodes (keeps_all d.nodes) d.parameters d.parameters (keeps_all d.parameters) plain
+    new : List Signature
+    new = signatures_of (functions ++ more)
 
-    value_up : (v : Value) → Fits functions d.parameters false (inside d) v → Fits (functions ++ more) d.parameters false (inside d) v
-    value_up (Term row sort) fits = (sort_kept functions (functions ++ more) keep d.rows d.rows (keeps_all d.rows) d.parameters d.parameters (keeps_all d.parameters) fits.0, fits.1)
+    keep : Keeps old new
+    keep = keeps_front old (signatures_of more) new (map-append as_signature functions more)
+
+    plain_up : {n : ℕ} → IsPlain old d.parameters d.rows d.nodes n → IsPlain new d.parameters d.rows d.nodes n
+    plain_up plain = plain_kept old new keep d.rows d.rows (keeps_all d.rows) d.nodes d.nodes (keeps_all d.nodes) d.parameters d.parameters (keeps_all d.parameters) plain
+
+    value_up : (v : Value) → Fits old d.parameters false (inside d) v → Fits new d.parameters false (inside d) v
+    value_up (Term row sort) fits = (sort_kept old new keep d.rows d.rows (keeps_all d.rows) d.parameters d.parameters (keeps_all d.parameters) fits.0, fits.1)
     value_up (Formula n None) fits = absurd (true≢false (sym fits.1))
     value_up (Formula n (Some c)) fits = (plain_up fits.0, plain_up fits.1)

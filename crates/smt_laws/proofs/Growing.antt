@@ -9,9 +9,8 @@ use Rattle.formula_draft.specs.declared.draft_row.DraftRow.{DraftRow}
 use Rattle.formula_draft.specs.declared.draft_node.DraftNode.{DraftNode}
 use Rattle.formula_draft.specs.declared.draft_forall.DraftForall.{DraftForall}
 use Rattle.formula_draft.specs.Draft.{Draft}
-use Rattle.smt_names.specs.Names.{Declared}
-use Rattle.smt_laws.specs.Sorted.{HasSort, HaveSorts, IsPlain, ArePlain, as_row, IsSortedTrigger, IsSorted, IsTruth, AreTruths}
-use Rattle.smt_laws.specs.Sorted.HasSort.{variable, application}
+use Rattle.formula_draft.specs.Sorted.{Signature, HasSort, HaveSorts, IsPlain, ArePlain, as_row, IsSortedTrigger, IsSorted, IsTruth, AreTruths}
+use Rattle.formula_draft.specs.Sorted.HasSort.{variable, application}
 
 -- what stands in the old list stands there in the new one
 abbrev pub Keeps : {X : Type 0} → List X → List X → Type 0
@@ -26,7 +25,7 @@ keeps_none xs n x at = absurd (none-some x at)
 pub keeps_front : {X : Type 0} (old more new : List X) → new ≡ old ++ more → Keeps old new
 keeps_front old more new grew n x at = subst (λ xs. slice_get xs n ≡ Some x) (sym grew) (slice_get-append_left old more n x at)
 
-module _ (functions functions' : List Declared) (more_functions : Keeps functions functions') (rows rows' : List DraftRow) (more_rows : Keeps rows rows') where
+module _ (functions functions' : List Signature) (more_functions : Keeps functions functions') (rows rows' : List DraftRow) (more_rows : Keeps rows rows') where
   module _ (variables variables' : List ℕ) (more_variables : Keeps variables variables') where
     mutual
       pub sort_kept : {row sort : ℕ} → HasSort functions variables rows row sort → HasSort functions' variables' rows' row sort
@@ -38,13 +37,13 @@ module _ (functions functions' : List Declared) (more_functions : Keeps function
       sorts_kept (HaveSorts.more first others) = HaveSorts.more (sort_kept first) (sorts_kept others)
 
 -- a trigger stays sorted when functions come
-trigger_kept : (functions functions' : List Declared) → Keeps functions functions' → (variables : List ℕ) (trigger : Trigger) → IsSortedTrigger functions variables trigger → IsSortedTrigger functions' variables trigger
+trigger_kept : (functions functions' : List Signature) → Keeps functions functions' → (variables : List ℕ) (trigger : Trigger) → IsSortedTrigger functions variables trigger → IsSortedTrigger functions' variables trigger
 trigger_kept functions functions' more_functions variables trigger sorted row within =
     let had = sorted row within in
     let rows = map as_row trigger.rows in
     (had.0, sort_kept functions functions' more_functions rows rows (keeps_all rows) variables variables (keeps_all variables) had.1)
 
-module _ (functions functions' : List Declared) (more_functions : Keeps functions functions') (rows rows' : List DraftRow) (more_rows : Keeps rows rows') where
+module _ (functions functions' : List Signature) (more_functions : Keeps functions functions') (rows rows' : List DraftRow) (more_rows : Keeps rows rows') where
   module _ (nodes nodes' : List DraftNode) (more_nodes : Keeps nodes nodes') where
     module _ (variables variables' : List ℕ) (more_variables : Keeps variables variables') where
       mutual
@@ -74,17 +73,17 @@ module _ (functions functions' : List Declared) (more_functions : Keeps function
         truths_kept (AreTruths.more first others) = AreTruths.more (truth_kept first) (truths_kept others)
 
 -- what has a sort stands
-pub sort_stands : {functions : List Declared} {variables : List ℕ} {rows : List DraftRow} {row sort : ℕ} → HasSort functions variables rows row sort → row < length rows
+pub sort_stands : {functions : List Signature} {variables : List ℕ} {rows : List DraftRow} {row sort : ℕ} → HasSort functions variables rows row sort → row < length rows
 sort_stands {rows = rows} (variable {row = row} at is) = slice_get_within rows row _ at
 sort_stands {rows = rows} (application place {row = row} at is args) = slice_get_within rows row _ at
 
-pub plain_stands : {functions : List Declared} {variables : List ℕ} {rows : List DraftRow} {nodes : List DraftNode} {n : ℕ} → IsPlain functions variables rows nodes n → n < length nodes
+pub plain_stands : {functions : List Signature} {variables : List ℕ} {rows : List DraftRow} {nodes : List DraftNode} {n : ℕ} → IsPlain functions variables rows nodes n → n < length nodes
 plain_stands {nodes = nodes} (IsPlain.equation {n = n} at other left right) = slice_get_within nodes n _ at
 plain_stands {nodes = nodes} (IsPlain.atom {n = n} at row) = slice_get_within nodes n _ at
 plain_stands {nodes = nodes} (IsPlain.each {n = n} at parts) = slice_get_within nodes n _ at
 plain_stands {nodes = nodes} (IsPlain.one {n = n} at parts) = slice_get_within nodes n _ at
 
-pub truth_stands : {functions : List Declared} {variables : List ℕ} {rows : List DraftRow} {nodes : List DraftNode} {foralls : List DraftForall} {n : ℕ} → IsTruth functions variables rows nodes foralls n → n < length nodes
+pub truth_stands : {functions : List Signature} {variables : List ℕ} {rows : List DraftRow} {nodes : List DraftNode} {foralls : List DraftForall} {n : ℕ} → IsTruth functions variables rows nodes foralls n → n < length nodes
 truth_stands (IsTruth.plain is) = plain_stands is
 truth_stands {nodes = nodes} (IsTruth.each {n = n} at parts) = slice_get_within nodes n _ at
 truth_stands {nodes = nodes} (IsTruth.one {n = n} at parts) = slice_get_within nodes n _ at

@@ -1,3 +1,4 @@
+pub mod Signatures
 pub mod Growing
 pub mod Standing
 pub mod Making

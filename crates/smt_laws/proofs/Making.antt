@@ -16,15 +16,14 @@ use Rattle.smt_names.specs.declared.syntax_fault.SyntaxFault.{SyntaxFault}
 use Rattle.smt_names.specs.declared.refusal.Refusal.{Refusal}
 use Rattle.smt_names.specs.declared.refusal.Refusal.TheVariants.{TermsFull, NodesFull}
 use Rattle.smt_names.specs.Making.{Making, made, then_from, or_full, row, node, want}
-use Rattle.smt_names.specs.Names.{Declared}
-use Rattle.smt_laws.specs.Sorted.{HasSort, HaveSorts, IsPlain, ArePlain, IsTruth, AreTruths}
+use Rattle.formula_draft.specs.Sorted.{Signature, HasSort, HaveSorts, IsPlain, ArePlain, IsTruth, AreTruths}
 use Rattle.smt_laws.specs.Sound.{IsWhole}
 use Rattle.smt_laws.proofs.Growing.{keeps_all, Extends, extends_itself, extends_twice, rows_keep, nodes_keep, foralls_keep, sort_kept, sorts_kept, plain_kept, plains_kept, truth_kept, truths_kept}
 
 -- Where parts are made: the functions, the sorts of the variables, whether a formula may hold a forall, and whether all rows and nodes
 -- have sorts by these variables, as in a definition.
 pub record Setting : Type 0 where
-  pub functions : List Declared
+  pub functions : List Signature
   pub variables : List ℕ
   pub universal : Bool
   pub whole : Bool

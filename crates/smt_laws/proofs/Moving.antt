@@ -2,6 +2,7 @@
 use Rattle.std.proofs.Common.{◌≡◌, ℕ, zero, suc, ◌+◌, ◌<◌, ◌≤◌, ◌⊎◌, ⊎_elim, inl, inr, Bool, true, false, List, [], ◌∷◌, ◌++◌, map, length, get_or, slice_get, Some, None, All, refl, sym, ap, subst, ◌∙◌, true≢false, append-nil, append_assoc, length-append, arith}
 use Rattle.std.proofs.lemmas.Option.{none-some, same_Some}
 use Rattle.std.proofs.lemmas.List.Elements.{All-nil, All-cons, All-head, All-tail}
+use Rattle.graph_terms.specs.Terms.{most_args}
 use Rattle.smt_text.specs.declared.token.Place.{Place}
 use Rattle.formula_draft.specs.declared.draft_row.DraftRow.{DraftRow}
 use Rattle.formula_draft.specs.declared.draft_row.DraftRow.TheVariants.{Var, App}
@@ -14,11 +15,11 @@ use Rattle.smt_names.specs.declared.value.Value.{Value}
 use Rattle.smt_names.specs.declared.value.Value.TheVariants.{Term, Formula}
 use Rattle.smt_names.specs.Value.{row_of}
 use Rattle.smt_names.specs.Making.{row}
-use Rattle.smt_names.specs.Names.{Declared, Defined}
+use Rattle.smt_names.specs.Names.{Defined}
 use Rattle.smt_forms.specs.Moved.{moved_numbers, moved_row, moved_rows, moved_node, moved_nodes, moved_value, unfolded}
-use Rattle.smt_laws.specs.Sorted.{HasSort, HaveSorts, IsPlain, ArePlain}
-use Rattle.smt_laws.specs.Sorted.HasSort.{variable, application}
-use Rattle.smt_laws.specs.Sound.{Fits, IsFunction, IsDefinition, inside}
+use Rattle.formula_draft.specs.Sorted.{Signature, HasSort, HaveSorts, IsPlain, ArePlain}
+use Rattle.formula_draft.specs.Sorted.HasSort.{variable, application}
+use Rattle.smt_laws.specs.Sound.{Fits, AreArguments, IsDefinitionOver, inside}
 use Rattle.smt_laws.proofs.Growing.{Extends, sort_stands, plain_stands}
 use Rattle.smt_laws.proofs.Making.{Setting, Sort, Sorts, Plain, Plains, Sound, Good, sort_later, sorts_later, plain_later, good_then, good_made, good_as, good_row}
 use Rattle.smt_laws.proofs.Values.{PlainNode, good_plain, FitsIn}
@@ -35,15 +36,15 @@ index_of (Var i) = i
 index_of (App f xs) = f
 
 -- the arguments of a row that is an application
-pub record Applied (functions : List Declared) (variables : List ℕ) (rows : List DraftRow) (symbol : ℕ) (args : List ℕ) (sort : ℕ) : Type 0 where
+pub record Applied (functions : List Signature) (variables : List ℕ) (rows : List DraftRow) (symbol : ℕ) (args : List ℕ) (sort : ℕ) : Type 0 where
   pub place : ℕ
-  pub f : Declared
+  pub f : Signature
   pub symbol_is : symbol ≡ place + 2
   pub stands : slice_get functions place ≡ Some f
   pub sorted : HaveSorts functions variables rows args f.arguments
   pub sort_is : f.sort ≡ sort
 
-module _ {functions : List Declared} {variables : List ℕ} {rows : List DraftRow} where
+module _ {functions : List Signature} {variables : List ℕ} {rows : List DraftRow} where
   pub variable_of : (row index sort : ℕ) → slice_get rows row ≡ Some (Var index) → HasSort functions variables rows row sort → slice_get variables index ≡ Some sort
   variable_of row index sort at (variable {index = found} stands is) = let same : index ≡ found = ap index_of (same_Some (Var index) (Var found) (sym at ∙ stands)) in subst (λ k. slice_get variables k ≡ Some sort) (sym same) is
   variable_of row index sort at (application place {args = args} stands is sorted) = absurd (var_no_app (same_Some (Var index) (App (place + 2) args) (sym at ∙ stands)))
@@ -69,10 +70,10 @@ module _ {functions : List Declared} {variables : List ℕ} {rows : List DraftRo
   sorts_stand (HaveSorts.more {row = row} {others = others} first rest) = All-cons (λ r. r < length rows) row others (sort_stands first) (sorts_stand rest)
 
 -- a new row, an application of a function
-pub good_application : (s : Setting) (at : Place) (draft : Draft) (sound : Sound s draft) (place : ℕ) (f : Declared) (args : List ℕ) → slice_get s.functions place ≡ Some f → IsFunction f → Sorts s draft args f.arguments
+pub good_application : (s : Setting) (at : Place) (draft : Draft) (sound : Sound s draft) (place : ℕ) (f : Signature) (args : List ℕ) → slice_get s.functions place ≡ Some f → AreArguments f.arguments → Sorts s draft args f.arguments
     → Good s draft (λ d n. Sort s d n f.sort) (row at (App (place + 2) args) draft)
 good_application s at draft sound place f args is function sorted =
-    good_row s at draft sound (App (place + 2) args) f.sort (record { args = sorts_stand sorted; few = subst (λ n. n ≤ 255) (sym (sorts_length sorted)) function.few })
+    good_row s at draft sound (App (place + 2) args) f.sort (record { args = sorts_stand sorted; few = subst (λ n. n ≤ most_args) (sym (sorts_length sorted)) function.few })
     (λ later n extends stands. application place stands is (sorts_later s draft later extends sorted))
 
 -- the element behind a front
@@ -87,7 +88,7 @@ pushed_at [] x (suc i) within = absurd (omega (arith, within))
 pushed_at (y ∷ xs) x zero within = inl (omega arith, refl)
 pushed_at (y ∷ xs) x (suc i) within = ⊎_elim (λ p. inl (omega (arith, p.0), p.1)) (λ p. inr (ap suc p.0, p.1)) (pushed_at xs x i (omega (arith, within)))
 
-module _ (s : Setting) (at : Place) (functions_are : (n : ℕ) (f : Declared) → slice_get s.functions n ≡ Some f → IsFunction f) (d : Defined) (is : IsDefinition s.functions d) where
+module _ (s : Setting) (at : Place) (functions_are : (n : ℕ) (f : Signature) → slice_get s.functions n ≡ Some f → AreArguments f.arguments) (d : Defined) (is : IsDefinitionOver s.functions d) where
   -- what stands in the definition
   abbrev Inner : ℕ → ℕ → Type 0
   Inner row sort = HasSort s.functions d.parameters d.rows row sort
@@ -116,11 +117,11 @@ module _ (s : Setting) (at : Place) (functions_are : (n : ℕ) (f : Declared) �
         (good_as s draft (λ new n extends sort_is sort inner. subst (λ k. Sort s new n k) (same_sort a.place a.f a.symbol_is a.stands sort (applied_of (length moved) symbol xs sort stands inner)) sort_is)
         (good_application s at draft sound a.place a.f (moved_numbers moved xs) a.stands (functions_are a.place a.f a.stands) sorted))
       where
-        same_sort : (place : ℕ) (f : Declared) → symbol ≡ place + 2 → slice_get s.functions place ≡ Some f → (sort : ℕ) → Applied s.functions d.parameters d.rows symbol xs sort → f.sort ≡ sort
+        same_sort : (place : ℕ) (f : Signature) → symbol ≡ place + 2 → slice_get s.functions place ≡ Some f → (sort : ℕ) → Applied s.functions d.parameters d.rows symbol xs sort → f.sort ≡ sort
         same_sort place f symbol_is stands_f sort b =
             let place_is : place ≡ b.place = omega (arith, symbol_is, b.symbol_is) in
             let f_is : f ≡ b.f = same_Some f b.f (sym stands_f ∙ ap (slice_get s.functions) place_is ∙ b.stands) in
-            ap (λ (g : Declared). g.sort) f_is ∙ b.sort_is
+            ap (λ (g : Signature). g.sort) f_is ∙ b.sort_is
 
     good_moved_rows : (draft : Draft) → Sound s draft → Sorts s draft args d.parameters → (moved : List ℕ) → RowsMoved draft moved → (front rest : List DraftRow) → length front ≡ length moved → front ++ rest ≡ d.rows
         → Good s draft (λ new all. RowsMoved new all × (length all ≡ length d.rows)) (moved_rows args moved at rest draft)

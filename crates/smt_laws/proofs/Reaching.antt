@@ -12,9 +12,8 @@ use Rattle.formula_draft.specs.DraftNode.{rows_of, parts_of}
 use Rattle.formula_draft.specs.Reach.{ReachesNode, ReachesRow}
 use Rattle.formula_draft.specs.Reach.ReachesNode.{itself, part_of_it}
 use Rattle.formula_draft.specs.Reach.ReachesRow.{named, argument}
-use Rattle.smt_names.specs.Names.{Declared}
-use Rattle.smt_laws.specs.Sorted.{HasSort, HaveSorts, IsPlain, ArePlain, IsTruth, AreTruths}
-use Rattle.smt_laws.specs.Sorted.HasSort.{variable, application}
+use Rattle.formula_draft.specs.Sorted.{Signature, HasSort, HaveSorts, IsPlain, ArePlain, IsTruth, AreTruths}
+use Rattle.formula_draft.specs.Sorted.HasSort.{variable, application}
 
 nothing_in : (x : ℕ) → Contains [] x → ⊥
 nothing_in x c = let at = place_from_Contains [] x c in none-some x at.1
@@ -26,7 +25,7 @@ is_forall node = false
 no_forall : (node : DraftNode) (index : ℕ) → is_forall node ≡ false → ◌≡◌ {A = DraftNode} (Forall index) node → ⊥
 no_forall node index isnt same = true≢false (ap is_forall same ∙ isnt)
 
-module _ (functions : List Declared) (variables : List ℕ) (rows : List DraftRow) where
+module _ (functions : List Signature) (variables : List ℕ) (rows : List DraftRow) where
   sorted_at : {args sorts : List ℕ} (i arg : ℕ) → HaveSorts functions variables rows args sorts → slice_get args i ≡ Some arg → (sort : ℕ) × HasSort functions variables rows arg sort
   sorted_at i arg HaveSorts.none at = absurd (none-some arg at)
   sorted_at zero arg (HaveSorts.more {row = row} {sort = sort} first rest) at = (sort, subst (λ k. HasSort functions variables rows k sort) (same_Some row arg at) first)

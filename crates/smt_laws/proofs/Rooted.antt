@@ -1,13 +1,12 @@
 -- Roots of triggers, and what a valid trigger is made of.
 use Rattle.std.proofs.Common.{◌≡◌, ℕ, zero, suc, ◌+◌, ◌<◌, ◌≤◌, true, List, [], ◌∷◌, ◌++◌, length, get_or, slice_get, sum_by, Some, refl, sym, ap, ◌∙◌, length-append, append_assoc, append-nil, arith}
-use Rattle.graph_trigger.specs.Trigger.{IsValid}
+use Rattle.graph_trigger.specs.Trigger.{IsValid, most_size, most_patterns, most_variables}
 use Rattle.formula_draft.specs.declared.draft_row.DraftRow.{DraftRow}
 use Rattle.formula_draft.specs.declared.draft_row.DraftRow.TheVariants.{App}
 use Rattle.formula_draft.specs.DraftRow.{args_of}
 use Rattle.formula_draft.specs.Draft.{Draft, IsDraft}
-use Rattle.smt_names.specs.Names.{Declared}
 use Rattle.smt_patterns.specs.Patterns.{sizes_after, size_of, trigger_of, occurs}
-use Rattle.smt_laws.specs.Sorted.{HasSort, IsSortedTrigger}
+use Rattle.formula_draft.specs.Sorted.{Signature, HasSort, IsSortedTrigger}
 use Rattle.smt_laws.proofs.Values.{Each}
 
 -- the size of a row by those of the rows before it
@@ -39,18 +38,18 @@ size_later rows more new r grew within =
     let keep = sizes_keep front more in
     ap (λ (all : List DraftRow). size_of all r) grew ∙ ap (λ (sizes : List ℕ). get_or sizes r 0) (sizes_apart [] rows more ∙ keep.1) ∙ get_front front keep.0 r (omega (arith, within, sizes_length [] rows))
 
--- a root: an application that has a sort, of at most 256 symbols and variables as a tree
-pub record IsRoot (functions : List Declared) (variables : List ℕ) (rows : List DraftRow) (r : ℕ) : Type 0 where
+-- a root: an application that has a sort, of no more symbols and variables than a pattern may have
+pub record IsRoot (functions : List Signature) (variables : List ℕ) (rows : List DraftRow) (r : ℕ) : Type 0 where
   pub symbol : ℕ
   pub args : List ℕ
   pub stands : slice_get rows r ≡ Some (App symbol args)
   pub sort : ℕ
   pub sorted : HasSort functions variables rows r sort
-  pub small : size_of rows r ≤ 256
+  pub small : size_of rows r ≤ most_size
 
 -- triggers of roots are valid, and their rows have sorts
 abbrev pub MakesValid : Type 0
-MakesValid = (functions : List Declared) (variables : List ℕ) (draft : Draft) → IsDraft draft → (roots : List ℕ) → Each (IsRoot functions variables draft.rows) roots
-    → 1 ≤ length roots → length roots ≤ 16 → length variables ≤ 32
+MakesValid = (functions : List Signature) (variables : List ℕ) (draft : Draft) → IsDraft draft → (roots : List ℕ) → Each (IsRoot functions variables draft.rows) roots
+    → 1 ≤ length roots → length roots ≤ most_patterns → length variables ≤ most_variables
     → ((index : ℕ) → index < length variables → occurs (trigger_of (length variables) draft.rows roots) index ≡ true)
     → IsValid (trigger_of (length variables) draft.rows roots) × IsSortedTrigger functions variables (trigger_of (length variables) draft.rows roots)

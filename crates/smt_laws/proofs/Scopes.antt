@@ -23,7 +23,9 @@ use Rattle.smt_names.specs.Making.{Making, row, bad_form, not_in_profile, refuse
 use Rattle.smt_names.specs.Names.{Scope, Declared, Defined, Named, named_by, function_of, definition_of, head_of, keep_last, last_with, bound_as, is_reserved}
 use Rattle.smt_terms.specs.Meant.{Meaning, Meant, End, Token, Group, from, first_place}
 use Rattle.smt_terms.specs.Terms.{stood_for, free_value, name_value, token_value, value, add_value, values, truth, bind, bound_values, let_value, annotated_value}
-use Rattle.smt_laws.specs.Sorted.HasSort.{variable}
+use Rattle.formula_draft.specs.Sorted.HasSort.{variable}
+use Rattle.smt_laws.specs.Sorted.{signatures_of}
+use Rattle.smt_laws.proofs.Signatures.{signature_stands, signatures_are}
 use Rattle.smt_laws.proofs.Standing.{Stood, may_hold, IsScope}
 use Rattle.smt_laws.proofs.Growing.{Extends}
 use Rattle.smt_laws.proofs.Making.{Setting, Sound, Good, refuses, good_then, good_made, good_want, good_row}
@@ -44,7 +46,7 @@ no_definition false b may = may
 
 -- the setting of a scope whose variables have these sorts
 abbrev pub setting : Scope → List ℕ → Setting
-setting scope variables = record { functions = scope.state.functions; variables = variables; universal = may_hold scope; whole = scope.in_definition; apart = definitions_hold_none scope.in_forall scope.in_definition }
+setting scope variables = record { functions = signatures_of scope.state.functions; variables = variables; universal = may_hold scope; whole = scope.in_definition; apart = definitions_hold_none scope.in_forall scope.in_definition }
 
 -- what the term means fits in each scope that is right
 abbrev pub GoodMeaning : Meaning → Type 0
@@ -67,7 +69,7 @@ module _ (scope : Scope) (variables : List ℕ) where
   abbrev s : Setting
   s = setting scope variables
 
-  pub stood_later : (old new : Draft) → Extends old new → (stands : Stands) → Stood scope.state.functions variables (not scope.in_definition) old stands → Stood scope.state.functions variables (not scope.in_definition) new stands
+  pub stood_later : (old new : Draft) → Extends old new → (stands : Stands) → Stood (signatures_of scope.state.functions) variables (not scope.in_definition) old stands → Stood (signatures_of scope.state.functions) variables (not scope.in_definition) new stands
   stood_later old new extends (Given v) fits = fits_later (record s { universal = not scope.in_definition; apart = λ w may. apart_of scope.in_definition w may }) old new extends v fits
     where
       apart_of : (b : Bool) → b ≡ true → not b ≡ true → ⊥
@@ -80,17 +82,17 @@ module _ (scope : Scope) (variables : List ℕ) where
     declared = is.declared;
     others = is.others;
     outside = is.outside;
-    bound = All-weaker (λ (b : Bound). Stood scope.state.functions variables (not scope.in_definition) old b.stands) (λ (b : Bound). Stood scope.state.functions variables (not scope.in_definition) new b.stands) (λ b. stood_later old new extends b.stands) scope.bound is.bound;
+    bound = All-weaker (λ (b : Bound). Stood (signatures_of scope.state.functions) variables (not scope.in_definition) old b.stands) (λ (b : Bound). Stood (signatures_of scope.state.functions) variables (not scope.in_definition) new b.stands) (λ b. stood_later old new extends b.stands) scope.bound is.bound;
   }
 
   -- a value that was made may be bound
-  pub may_stand : (draft : Draft) (v : Value) → FitsIn s draft v → Stood scope.state.functions variables (not scope.in_definition) draft (Given v)
+  pub may_stand : (draft : Draft) (v : Value) → FitsIn s draft v → Stood (signatures_of scope.state.functions) variables (not scope.in_definition) draft (Given v)
   may_stand draft (Term row sort) fits = fits
   may_stand draft (Formula n None) fits = (fits.0, no_definition scope.in_forall scope.in_definition fits.1)
   may_stand draft (Formula n (Some c)) fits = fits
 
   module _ (draft : Draft) (sound : Sound s draft) (is : IsScope variables draft scope) where
-    good_stood : (at : Place) (stands : Stands) → Stood scope.state.functions variables (not scope.in_definition) draft stands → Good s draft (λ d v. FitsIn s d v) (stood_for scope at stands draft)
+    good_stood : (at : Place) (stands : Stands) → Stood (signatures_of scope.state.functions) variables (not scope.in_definition) draft stands → Good s draft (λ d v. FitsIn s d v) (stood_for scope at stands draft)
     good_stood at (Given (Term r sort)) fits = good_made s draft (Term r sort) sound fits
     good_stood at (Given (Formula n (Some c))) fits = good_then s draft _ (good_want s draft (not scope.in_forall || true) refusal.NotInProfile at sound) λ _ d keeps extends _. good_made s d (Formula n (Some c)) keeps (fits_later s draft d extends (Formula n (Some c)) fits)
     good_stood at (Given (Formula n None)) fits = good_then s draft _ (good_want s draft (not scope.in_forall || false) refusal.NotInProfile at sound) λ _ d keeps extends free.
@@ -108,7 +110,7 @@ module _ (scope : Scope) (variables : List ℕ) where
       where
         by : (o : Option Declared) → slice_get scope.state.functions n ≡ o → IsNamed s (function_of (n + 2) o)
         by None at = of_none
-        by (Some f) at = of_function n at (is.declared.functions_are n f at)
+        by (Some f) at = of_function n (signature_stands scope.state.functions n f at) (is.declared.functions_are n f at)
     named_is (head.Definition n) = by (slice_get scope.state.definitions n) refl
       where
         by : (o : Option Defined) → slice_get scope.state.definitions n ≡ o → IsNamed s (definition_of o)
@@ -117,9 +119,9 @@ module _ (scope : Scope) (variables : List ℕ) where
     named_is head.Unknown = of_none
 
     good_free : (word : Word) {name : Named} → IsNamed s name → Good s draft (λ d v. FitsIn s d v) (free_value word name draft)
-    good_free word (of_core {c = c}) = good_applied s is.declared.functions_are word.place word.place word.text draft sound of_core [] none
-    good_free word (of_function {f = f} place at function) = good_applied s is.declared.functions_are word.place word.place word.text draft sound (of_function place at function) [] none
-    good_free word (of_definition {d = d} definition) = good_applied s is.declared.functions_are word.place word.place word.text draft sound (of_definition definition) [] none
+    good_free word (of_core {c = c}) = good_applied s (signatures_are scope.state.functions is.declared.functions_are) word.place word.place word.text draft sound of_core [] none
+    good_free word (of_function {f = f} place at function) = good_applied s (signatures_are scope.state.functions is.declared.functions_are) word.place word.place word.text draft sound (of_function {f = f} place at function) [] none
+    good_free word (of_definition {d = d} definition) = good_applied s (signatures_are scope.state.functions is.declared.functions_are) word.place word.place word.text draft sound (of_definition definition) [] none
     good_free word of_none = by (is_reserved word.text)
       where
         by : (b : Bool) → Good s draft (λ d v. FitsIn s d v) (cond b (bad_form word.place) (refuse_named refusal.UnknownName word.place word.text) draft)
@@ -127,7 +129,7 @@ module _ (scope : Scope) (variables : List ℕ) where
         by false = refuses
 
     good_name : (word : Word) (o : Option Bound) → bound_as scope.bound word.text ≡ o → Good s draft (λ d v. FitsIn s d v) (name_value scope word o draft)
-    good_name word (Some b) found = good_stood word.place b.stands (last_is (λ (x : Bound). Stood scope.state.functions variables (not scope.in_definition) draft x.stands) (λ x. bytes_eq word.text x.name) scope.bound b is.bound found)
+    good_name word (Some b) found = good_stood word.place b.stands (last_is (λ (x : Bound). Stood (signatures_of scope.state.functions) variables (not scope.in_definition) draft x.stands) (λ x. bytes_eq word.text x.name) scope.bound b is.bound found)
     good_name word None found = good_free word (named_is (head_of scope.state word.text))
 
     -- what a kind of token makes
@@ -179,14 +181,14 @@ module _ (scope : Scope) (variables : List ℕ) where
 
   -- bound names stand in the draft
   abbrev pub AllStand : Draft → List Bound → Type 0
-  AllStand draft bound = All (λ (b : Bound). Stood scope.state.functions variables (not scope.in_definition) draft b.stands) bound
+  AllStand draft bound = All (λ (b : Bound). Stood (signatures_of scope.state.functions) variables (not scope.in_definition) draft b.stands) bound
 
   pub good_bound_values : (draft : Draft) → Sound s draft → IsScope variables draft scope → (trees : Meant) → AllMean GoodMeaning trees → Good s draft (λ d bound. AllStand d bound) (bound_values scope trees draft)
   good_bound_values draft sound is (Group paren meaning (Token name term) after) (group means (token within) rest) =
       good_then s draft _ (good_value draft sound is name.place term within) λ v d1 k1 e1 fits.
       good_then s d1 _ (good_bound_values d1 k1 (scope_later draft d1 e1 is) after rest) λ bound d2 k2 e2 stand.
-      good_made s d2 (bind name.text v ∷ bound) k2 (All-cons (λ (b : Bound). Stood scope.state.functions variables (not scope.in_definition) d2 b.stands) (bind name.text v) bound (stood_later d1 d2 e2 (Given v) (may_stand d1 v fits)) stand)
-  good_bound_values draft sound is trees all = good_made s draft [] sound (All-nil (λ (b : Bound). Stood scope.state.functions variables (not scope.in_definition) draft b.stands))
+      good_made s d2 (bind name.text v ∷ bound) k2 (All-cons (λ (b : Bound). Stood (signatures_of scope.state.functions) variables (not scope.in_definition) d2 b.stands) (bind name.text v) bound (stood_later d1 d2 e2 (Given v) (may_stand d1 v fits)) stand)
+  good_bound_values draft sound is trees all = good_made s draft [] sound (All-nil (λ (b : Bound). Stood (signatures_of scope.state.functions) variables (not scope.in_definition) draft b.stands))
 
   -- a scope with more names
   pub bound_more : (draft : Draft) (bound : List Bound) → IsScope variables draft scope → AllStand draft bound → IsScope variables draft (record scope { bound = scope.bound ++ bound })
@@ -194,7 +196,7 @@ module _ (scope : Scope) (variables : List ℕ) where
     declared = is.declared;
     others = is.others;
     outside = is.outside;
-    bound = All-append (λ (b : Bound). Stood scope.state.functions variables (not scope.in_definition) draft b.stands) scope.bound bound is.bound stand;
+    bound = All-append (λ (b : Bound). Stood (signatures_of scope.state.functions) variables (not scope.in_definition) draft b.stands) scope.bound bound is.bound stand;
   }
 
 -- let and !

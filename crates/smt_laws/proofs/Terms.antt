@@ -14,6 +14,7 @@ use Rattle.smt_terms.specs.Terms.{named_value, unbound_value, form_of, form_valu
 use Rattle.smt_laws.proofs.Standing.{IsScope}
 use Rattle.smt_laws.proofs.Making.{Sound, Good, refuses, good_then}
 use Rattle.smt_laws.proofs.Values.{FitsIn}
+use Rattle.smt_laws.proofs.Signatures.{signatures_are}
 use Rattle.smt_laws.proofs.Applying.{IsNamed, of_core, of_function, of_definition, of_none, good_applied}
 use Rattle.smt_laws.proofs.Checks.{AllMean, end, token, group}
 use Rattle.smt_laws.proofs.Scopes.{setting, GoodMeaning, named_is, good_values, good_let, good_annotated}
@@ -24,11 +25,11 @@ use Rattle.smt_laws.proofs.Rooted.{MakesValid}
 good_named : (paren : Place) (head : Word) (parts : Meant) → AllMean GoodMeaning parts → (scope : Scope) (variables : List ℕ) (draft : Draft) → Sound (setting scope variables) draft → IsScope variables draft scope
     → {name : Named} → IsNamed (setting scope variables) name → Good (setting scope variables) draft (λ d v. FitsIn (setting scope variables) d v) (named_value paren head name parts scope draft)
 good_named paren head parts all scope variables draft sound is of_core = good_then (setting scope variables) draft _ (good_values scope variables draft sound is parts all) λ args d keeps extends fit.
-    good_applied (setting scope variables) is.declared.functions_are paren head.place head.text d keeps of_core args fit
-good_named paren head parts all scope variables draft sound is (of_function place at function) = good_then (setting scope variables) draft _ (good_values scope variables draft sound is parts all) λ args d keeps extends fit.
-    good_applied (setting scope variables) is.declared.functions_are paren head.place head.text d keeps (of_function place at function) args fit
+    good_applied (setting scope variables) (signatures_are scope.state.functions is.declared.functions_are) paren head.place head.text d keeps of_core args fit
+good_named paren head parts all scope variables draft sound is (of_function {f = f} place at function) = good_then (setting scope variables) draft _ (good_values scope variables draft sound is parts all) λ args d keeps extends fit.
+    good_applied (setting scope variables) (signatures_are scope.state.functions is.declared.functions_are) paren head.place head.text d keeps (of_function {f = f} place at function) args fit
 good_named paren head parts all scope variables draft sound is (of_definition definition) = good_then (setting scope variables) draft _ (good_values scope variables draft sound is parts all) λ args d keeps extends fit.
-    good_applied (setting scope variables) is.declared.functions_are paren head.place head.text d keeps (of_definition definition) args fit
+    good_applied (setting scope variables) (signatures_are scope.state.functions is.declared.functions_are) paren head.place head.text d keeps (of_definition definition) args fit
 good_named paren head parts all scope variables draft sound is of_none = refuses
 
 good_unbound : (paren : Place) (head : Word) (parts : Meant) → AllMean GoodMeaning parts → (scope : Scope) (variables : List ℕ) (draft : Draft) → Sound (setting scope variables) draft → IsScope variables draft scope

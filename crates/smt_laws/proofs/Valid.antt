@@ -15,10 +15,9 @@ use Rattle.formula_draft.specs.declared.draft_row.DraftRow.{DraftRow}
 use Rattle.formula_draft.specs.declared.draft_row.DraftRow.TheVariants.{Var, App}
 use Rattle.formula_draft.specs.DraftRow.{args_of}
 use Rattle.formula_draft.specs.Draft.{Draft, IsDraft, FitsRow}
-use Rattle.smt_names.specs.Names.{Declared}
 use Rattle.smt_patterns.specs.Patterns.{sizes_after, size_of, reached_from, Kept, numbered, renumbered, kept_after, trigger_of, is_variable, occurs}
-use Rattle.smt_laws.specs.Sorted.{HasSort, HaveSorts, as_row, IsSortedTrigger}
-use Rattle.smt_laws.specs.Sorted.HasSort.{variable, application}
+use Rattle.formula_draft.specs.Sorted.{Signature, HasSort, HaveSorts, as_row, IsSortedTrigger}
+use Rattle.formula_draft.specs.Sorted.HasSort.{variable, application}
 use Rattle.smt_laws.proofs.Growing.{sort_stands}
 use Rattle.smt_laws.proofs.Values.{Each, none, more}
 use Rattle.smt_laws.proofs.Moving.{variable_of, applied_of}
@@ -97,7 +96,7 @@ var_from : (numbers : List ℕ) (row : DraftRow) (index : ℕ) → renumbered nu
 var_from numbers (Var i) index is = ap Var (ap pattern_symbol is)
 var_from numbers (App f args) index is = absurd (true≢false (ap is_pattern_app is))
 
-module _ (functions : List Declared) (variables : List ℕ) (draft : Draft) (draft_is : IsDraft draft) (roots : List ℕ) (are : Each (IsRoot functions variables draft.rows) roots) where
+module _ (functions : List Signature) (variables : List ℕ) (draft : Draft) (draft_is : IsDraft draft) (roots : List ℕ) (are : Each (IsRoot functions variables draft.rows) roots) where
   abbrev rows : List DraftRow
   rows = draft.rows
 

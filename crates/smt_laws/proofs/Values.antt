@@ -10,7 +10,7 @@ use Rattle.smt_names.specs.declared.value.Value.TheVariants.{Term, Formula}
 use Rattle.smt_names.specs.Value.{sort_of, row_of, self, has_complement, other, swapped}
 use Rattle.smt_names.specs.Making.{node}
 use Rattle.smt_forms.specs.Nodes.{both}
-use Rattle.smt_laws.specs.Sorted.{IsPlain, ArePlain, IsTruth, AreTruths}
+use Rattle.formula_draft.specs.Sorted.{IsPlain, ArePlain, IsTruth, AreTruths}
 use Rattle.smt_laws.specs.Sound.{Fits}
 use Rattle.smt_laws.proofs.Growing.{Extends, sort_stands, plain_stands, truth_stands}
 use Rattle.smt_laws.proofs.Making.{Setting, Sort, Plain, Plains, Truth, Truths, Sound, Good, sort_later, plain_later, plains_later, truth_later, truths_later, good_then, good_made, good_node}

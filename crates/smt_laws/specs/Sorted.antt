@@ -1,90 +1,21 @@
--- Which sorts rows have, and which nodes are formulas.
-use Rattle.std.specs.Prelude.{◌≡◌, ℕ, ◌+◌, ◌<◌, ◌≤◌, Bool, List, [], ◌∷◌, map, length, slice_get, Some, All}
-use Rattle.graph_trigger.specs.declared.pattern_row.PatternRow.{PatternRow}
-use Rattle.graph_trigger.specs.declared.pattern_row.PatternRow.TheVariants as pattern
-use Rattle.graph_trigger.specs.declared.trigger.Trigger.{Trigger}
+-- Which nodes are formulas, as the functions are declared.
+use Rattle.std.specs.Prelude.{ℕ, List, map}
 use Rattle.formula_draft.specs.declared.draft_row.DraftRow.{DraftRow}
-use Rattle.formula_draft.specs.declared.draft_row.DraftRow.TheVariants.{Var, App}
 use Rattle.formula_draft.specs.declared.draft_node.DraftNode.{DraftNode}
-use Rattle.formula_draft.specs.declared.draft_node.DraftNode.TheVariants.{Equal, Atom, And, Or, Forall}
 use Rattle.formula_draft.specs.declared.draft_forall.DraftForall.{DraftForall}
+use Rattle.formula_draft.specs.Sorted as sorted
 use Rattle.smt_names.specs.Names.{Declared}
 
-mutual
-  -- the row has this sort, where the variables have those; the symbols of functions count from 2
-  pub data HasSort (functions : List Declared) (variables : List ℕ) (rows : List DraftRow) : ℕ → ℕ → Type 0 where
-    variable : {row index sort : ℕ} → slice_get rows row ≡ Some (Var index) → slice_get variables index ≡ Some sort →
-        HasSort functions variables rows row sort
-    application : (place : ℕ) {row : ℕ} {args : List ℕ} {f : Declared} →
-        slice_get rows row ≡ Some (App (place + 2) args) → slice_get functions place ≡ Some f →
-        HaveSorts functions variables rows args f.arguments → HasSort functions variables rows row f.sort
+-- the sorts of a declared function
+abbrev pub as_signature : Declared → sorted.Signature
+as_signature f = record { arguments = f.arguments; sort = f.sort }
 
-  -- the rows have these sorts
-  pub data HaveSorts (functions : List Declared) (variables : List ℕ) (rows : List DraftRow) : List ℕ → List ℕ →
-      Type 0 where
-    none : HaveSorts functions variables rows [] []
-    more : {row sort : ℕ} {others sorts : List ℕ} → HasSort functions variables rows row sort →
-        HaveSorts functions variables rows others sorts → HaveSorts functions variables rows (row ∷ others) (sort
-        ∷ sorts)
+-- the sorts of the declared functions
+abbrev pub signatures_of : List Declared → List sorted.Signature
+signatures_of functions = map as_signature functions
 
-mutual
-  -- The node is a formula that holds no forall: equations of rows of one sort, which is not Bool, and atoms, rows of
-  -- sort Bool, under And and Or.
-  pub data IsPlain (functions : List Declared) (variables : List ℕ) (rows : List DraftRow)
-      (nodes : List DraftNode) : ℕ → Type 0 where
-    equation : {n left right sort : ℕ} {positive : Bool} → slice_get nodes n ≡ Some (Equal positive left right) →
-        1 ≤ sort
-        → HasSort functions variables rows left sort → HasSort functions variables rows right sort →
-        IsPlain functions variables rows nodes n
-    atom : {n row : ℕ} {positive : Bool} → slice_get nodes n ≡ Some (Atom positive row) →
-        HasSort functions variables rows row 0 → IsPlain functions variables rows nodes n
-    each : {n : ℕ} {parts : List ℕ} → slice_get nodes n ≡ Some (And parts) →
-        ArePlain functions variables rows nodes parts → IsPlain functions variables rows nodes n
-    one : {n : ℕ} {parts : List ℕ} → slice_get nodes n ≡ Some (Or parts) →
-        ArePlain functions variables rows nodes parts → IsPlain functions variables rows nodes n
-
-  pub data ArePlain (functions : List Declared) (variables : List ℕ) (rows : List DraftRow)
-      (nodes : List DraftNode) : List ℕ → Type 0 where
-    none : ArePlain functions variables rows nodes []
-    more : {n : ℕ} {others : List ℕ} → IsPlain functions variables rows nodes n →
-        ArePlain functions variables rows nodes others → ArePlain functions variables rows nodes (n ∷ others)
-
--- the row of a pattern, as a row of a formula
-abbrev pub as_row : PatternRow → DraftRow
-as_row (pattern.Var index) = Var index
-as_row (pattern.App symbol parts) = App symbol parts
-
--- each row of the trigger has a sort
-abbrev pub IsSortedTrigger : List Declared → List ℕ → Trigger → Type 0
-IsSortedTrigger functions variables trigger = (row : ℕ) → row < length trigger.rows → (sort : ℕ) ×
-    HasSort functions variables (map as_row trigger.rows) row sort
-
--- The variables of a forall have sorts, of which none is Bool, by which its body is a formula that holds no forall,
--- and the rows of its triggers have sorts.
-pub record IsSorted (functions : List Declared) (rows : List DraftRow) (nodes : List DraftNode)
-    (forall : DraftForall) : Type 0 where
-  pub sorts : List ℕ
-  pub count : length sorts ≡ forall.variables
-  pub others : All (λ sort. 1 ≤ sort) sorts
-  pub body : IsPlain functions sorts rows nodes forall.body
-  pub triggers : All (IsSortedTrigger functions sorts) forall.triggers
-
-mutual
-  -- The node is a formula: a plain one, or a forall, or And and Or of formulas.
-  pub data IsTruth (functions : List Declared) (variables : List ℕ) (rows : List DraftRow) (nodes : List DraftNode)
-      (foralls : List DraftForall) : ℕ → Type 0 where
-    plain : {n : ℕ} → IsPlain functions variables rows nodes n → IsTruth functions variables rows nodes foralls n
-    each : {n : ℕ} {parts : List ℕ} → slice_get nodes n ≡ Some (And parts) →
-        AreTruths functions variables rows nodes foralls parts → IsTruth functions variables rows nodes foralls n
-    one : {n : ℕ} {parts : List ℕ} → slice_get nodes n ≡ Some (Or parts) →
-        AreTruths functions variables rows nodes foralls parts → IsTruth functions variables rows nodes foralls n
-    universal : {n index : ℕ} {forall : DraftForall} → slice_get nodes n ≡ Some (Forall index) →
-        slice_get foralls index ≡ Some forall → IsSorted functions rows nodes forall →
-        IsTruth functions variables rows nodes foralls n
-
-  pub data AreTruths (functions : List Declared) (variables : List ℕ) (rows : List DraftRow) (nodes : List DraftNode)
-      (foralls : List DraftForall) : List ℕ → Type 0 where
-    none : AreTruths functions variables rows nodes foralls []
-    more : {n : ℕ} {others : List ℕ} → IsTruth functions variables rows nodes foralls n →
-        AreTruths functions variables rows nodes foralls others →
-        AreTruths functions variables rows nodes foralls (n ∷ others)
+-- the node is a formula, sorted as the functions are declared
+abbrev pub IsTruth : List Declared → (variables : List ℕ) → List DraftRow → List DraftNode → List DraftForall → ℕ →
+    Type 0
+IsTruth functions variables rows nodes foralls n =
+    sorted.IsTruth (signatures_of functions) variables rows nodes foralls n

@@ -56,7 +56,4 @@ pub enum Refusal {
     /// More nodes than a formula may have.
     #[error("too many formula nodes")]
     NodesFull,
-    /// Memory was refused.
-    #[error("no memory")]
-    Memory,
 }

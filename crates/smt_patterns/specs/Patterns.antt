@@ -1,5 +1,5 @@
 -- The rows of a trigger, and how large a pattern is.
-use Rattle.std.specs.Prelude.{ℕ, zero, suc, Bool, true, false, cond, nat_le, ◌==◌, List}
+use Rattle.std.specs.Prelude.{ℕ, zero, suc, Bool, true, false, ◌==◌, List}
 use Rattle.std.specs.Prelude.{[], ◌∷◌, ◌++◌, map, length, get_or, slice_set, replicate, sum_by}
 use Rattle.std.specs.List.{list_any}
 use Rattle.formula_draft.specs.declared.draft_row.DraftRow.{DraftRow}
@@ -8,7 +8,6 @@ use Rattle.formula_draft.specs.DraftRow.{args_of}
 use Rattle.graph_trigger.specs.declared.pattern_row.PatternRow.{PatternRow}
 use Rattle.graph_trigger.specs.declared.pattern_row.PatternRow.TheVariants as pattern
 use Rattle.graph_trigger.specs.declared.trigger.Trigger.{Trigger}
-use Rattle.smt_patterns.specs.declared.keeping.Keeping.{Keeping}
 
 -- how many symbols and variables each row has as a tree, after the sizes of those before it
 abbrev pub sizes_after : List ℕ → List DraftRow → List ℕ
@@ -19,10 +18,6 @@ sizes_after sizes (next ∷ rows) = sizes_after (sizes ++ suc (sum_by (λ arg. g
 -- how many symbols and variables a row has as a tree
 abbrev pub size_of : List DraftRow → ℕ → ℕ
 size_of rows row = get_or (sizes_after [] rows) row 0
-
--- a size up to 256, and 257 for each greater one
-abbrev pub capped : ℕ → ℕ
-capped n = cond (nat_le n 256) n 257
 
 -- with these places marked
 abbrev pub marked : List ℕ → List Bool → List Bool
@@ -76,10 +71,6 @@ kept_after marks kept (row ∷ rows) = kept_after marks (kept_if (get_or marks (
 -- the rows of these that the roots reach
 abbrev pub kept_of : List DraftRow → List ℕ → Kept
 kept_of rows roots = kept_after (reached_from rows roots) (record { numbers = []; rows = [] }) rows
-
--- what is kept so far by the code
-abbrev pub kept_so : Keeping → Kept
-kept_so keeping = record { numbers = keeping.numbers.items; rows = keeping.rows }
 
 -- The trigger of these roots, with so many variables. It is numbered where the formula is entered.
 abbrev pub trigger_of : ℕ → List DraftRow → List ℕ → Trigger

@@ -1,6 +1,7 @@
 -- The rows of patterns, and what is refused as a pattern.
 use Rattle.std.specs.Prelude.{ℕ, Bool, true, false, nat_le, [], get_or, Option, Some, None}
 use Rattle.smt_text.specs.declared.token.Place.{Place}
+use Rattle.graph_trigger.specs.Trigger.{most_size}
 use Rattle.formula_draft.specs.declared.draft_row.DraftRow.{DraftRow}
 use Rattle.formula_draft.specs.declared.draft_row.DraftRow.TheVariants.{Var, App}
 use Rattle.formula_draft.specs.declared.draft_node.DraftNode.{DraftNode}
@@ -32,9 +33,9 @@ abbrev pub root_of : Place → Value → Making ℕ
 root_of at (Term r sort) draft = no_variable at r (get_or draft.rows r (Var 0)) draft
 root_of at (Formula n c) draft = atom_row at (positive_row (get_or draft.nodes n (And []))) draft
 
--- at most 256 symbols and variables, counted as a tree
+-- no more symbols and variables than a pattern may have, counted as a tree
 abbrev pub small_enough : Place → ℕ → Making (Unit {0})
-small_enough at r draft = want (nat_le (size_of draft.rows r) 256) PatternTooLarge at draft
+small_enough at r draft = want (nat_le (size_of draft.rows r) most_size) PatternTooLarge at draft
 
 -- the row of a pattern whose value is this, which must be small enough
 abbrev pub small_root : Place → Value → Making ℕ

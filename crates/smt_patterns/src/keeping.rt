@@ -1,35 +1,49 @@
 //! Keeps the rows of a formula that are reached, numbered anew.
-ghost use Rattle.std.specs.Prelude.{◌≡◌, ◌<◌, ◌≤◌, ◌+◌, false, length, get_or, IfOk, OnOk};
-ghost use Rattle.smt_patterns.specs.Patterns.{numbered, renumbered, kept_if, kept_of, kept_so};
+ghost use Rattle.std.specs.Prelude.{◌≡◌, ◌<◌, ◌≤◌, ℕ, Bool, List, map, length, get_or, IfOk};
+ghost use Rattle.formula_draft.specs.declared.draft_row.DraftRow.TheVariants.{Var};
+ghost use Rattle.smt_patterns.specs.Patterns.{numbered, renumbered};
+ghost use Rattle.smt_patterns.specs.Places.{places_below, numbers_below, kept_row};
 
-use crate::marks::{is_marked, reach};
+use crate::marks::count_below;
 use formula_draft::{DraftRow, FormulaDraft};
 use graph_terms::{Memory, Numbers};
 use graph_trigger::{PatternRow, PatternRows};
 use std::alloc::Global;
 
-/// The new numbers of some rows.
-pub(crate) fn numbers_at(alloc: Global, numbers: &[u32], places: &[u32]) -> Result<Numbers, Memory>
-    ensures { IfOk result (λ found. found ≡ numbered numbers.now places.now) }
+/// The new number of a place: its place among those that are kept, and 0 where it is none of them.
+fn number_of(places: &[u32], place: u32) -> Result<u32, Memory>
+    ensures { IfOk result (λ number. (marks : List Bool) (rows : ℕ) → places.now ≡ places_below rows marks → number ≡ get_or (numbers_below rows marks) place 0) }
+{
+    let i = count_below(places, place);
+    if i >= places.len() || places[i] != place {
+        return Ok(0);
+    }
+    if i > u32::MAX as usize {
+        return Err(Memory);
+    }
+    Ok(i as u32)
+}
+
+/// The new numbers of some places, where these are kept.
+pub(crate) fn numbers_at(alloc: Global, places: &[u32], asked: &[u32]) -> Result<Numbers, Memory>
+    ensures { IfOk result (λ found. (marks : List Bool) (rows : ℕ) → places.now ≡ places_below rows marks → found ≡ numbered (numbers_below rows marks) asked.now) }
 {
     let mut found = Vec::new(alloc);
-    for place in places {
-        match numbers.get(*place as usize) {
-            Some(number) => found.push(*number)?,
-            None => found.push(0)?,
-        }
+    for place in asked {
+        let number = number_of(places, *place)?;
+        found.push(number)?;
     }
     Numbers::from_slice(alloc, found.as_slice())
 }
 
-/// A row with new numbers.
-fn renumber(alloc: Global, numbers: &[u32], row: &DraftRow) -> Result<PatternRow, Memory>
-    ensures { IfOk result (λ found. found ≡ renumbered numbers.now row.now) }
+/// A row with new numbers, where these are kept before it.
+fn renumber(alloc: Global, places: &[u32], row: &DraftRow) -> Result<PatternRow, Memory>
+    ensures { IfOk result (λ found. (marks : List Bool) (rows : ℕ) → places.now ≡ places_below rows marks → found ≡ renumbered (numbers_below rows marks) row.now) }
 {
     match row {
         DraftRow::Var { index } => Ok(PatternRow::Var { index: *index }),
         DraftRow::App { symbol, args } => {
-            let args = numbers_at(alloc, numbers, args.as_slice())?;
+            let args = numbers_at(alloc, places, args.as_slice())?;
             Ok(PatternRow::App {
                 symbol: *symbol,
                 args,
@@ -38,60 +52,33 @@ fn renumber(alloc: Global, numbers: &[u32], row: &DraftRow) -> Result<PatternRow
     }
 }
 
-/// Rows numbered anew: the new number of each row so far, and the rows that are kept.
-#[derive(Drop)]
-pub(crate) struct Keeping {
-    pub(crate) numbers: Vec<u32>,
-    pub(crate) rows: PatternRows,
-}
-
-/// One row more, which is kept where it is reached.
-fn keep_if(
+/// The row at a place with new numbers, where these are kept before it.
+fn renumber_at(
     alloc: Global,
-    keeping: &mut Keeping,
-    reached: bool,
-    row: &DraftRow,
-) -> Result<(), Memory>
-    ensures { OnOk result (kept_so keeping.new ≡ kept_if reached (kept_so keeping.old) row.now) }
+    draft: &FormulaDraft,
+    places: &[u32],
+    place: u32,
+) -> Result<PatternRow, Memory>
+    ensures { IfOk result (λ found. (marks : List Bool) → places.now ≡ places_below place marks → found ≡ kept_row draft.now.rows marks place) }
 {
-    if !reached {
-        keeping.numbers.push(0)?;
-        return Ok(());
+    if place >= draft.rows() {
+        return Ok(PatternRow::Var { index: 0 });
     }
-    let new = renumber(alloc, keeping.numbers.as_slice(), row)?;
-    let number = keeping.rows.len();
-    keeping.rows.push(new)?;
-    keeping.numbers.push(number)?;
-    Ok(())
+    renumber(alloc, places, draft.row_at(place))
 }
 
-/// One row more, which is kept where it is marked.
-fn keep_marked(
+/// The rows at these places, which are in order, numbered anew.
+pub(crate) fn keep(
     alloc: Global,
-    keeping: &mut Keeping,
-    marks: &[bool],
-    row: &DraftRow,
-) -> Result<(), Memory>
-    ensures { OnOk result (kept_so keeping.new ≡ kept_if (get_or marks.now (length keeping.old.numbers.items) false) (kept_so keeping.old) row.now) }
+    draft: &FormulaDraft,
+    places: &[u32],
+) -> Result<PatternRows, Memory>
+    ensures { IfOk result (λ kept. (marks : List Bool) (rows : ℕ) → places.now ≡ places_below rows marks → kept ≡ map (kept_row draft.now.rows marks) places.now) }
 {
-    let reached = is_marked(marks, keeping.numbers.len());
-    keep_if(alloc, keeping, reached, row)
-}
-
-/// The reached rows, in the order in which they stand.
-pub(crate) fn keep(alloc: Global, draft: &FormulaDraft, roots: &[u32]) -> Result<Keeping, Memory>
-    ensures { IfOk result (λ keeping. kept_so keeping ≡ kept_of draft.now.rows roots.now) }
-{
-    let marks = reach(alloc, draft, roots)?;
-    let mut keeping = Keeping {
-        numbers: Vec::new(alloc),
-        rows: PatternRows::new(alloc),
-    };
-    let rows = draft.rows();
-    let mut i = 0;
-    while i < rows {
-        keep_marked(alloc, &mut keeping, marks.as_slice(), draft.row_at(i))?;
-        i += 1;
+    let mut kept = PatternRows::new(alloc);
+    for i in 0..places.len() {
+        let new = renumber_at(alloc, draft, &places[..i], places[i])?;
+        kept.push(new)?;
     }
-    Ok(keeping)
+    Ok(kept)
 }

@@ -66,11 +66,11 @@ fn root_at(alloc: Global, draft: &FormulaDraft, at: Place, value: Value) -> Resu
     }
 }
 
-/// A pattern has at most 256 symbols and variables.
+/// A pattern has no more symbols and variables than it may have.
 fn check_small(alloc: Global, draft: &FormulaDraft, at: Place, row: u32) -> Result<(), Stop>
     ensures { Makes result draft.now draft.now (small_enough at row) }
 {
-    if is_small(alloc, draft, row)? {
+    if is_small(draft, row) {
         Ok(())
     } else {
         Err(Stop::at(alloc, Refusal::PatternTooLarge, at))

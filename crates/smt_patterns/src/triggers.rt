@@ -4,7 +4,8 @@ ghost use Rattle.smt_names.specs.Makes.{Makes, Checks};
 ghost use Rattle.smt_patterns.specs.Patterns.{trigger_of, is_variable, occurs};
 ghost use Rattle.smt_patterns.specs.Triggers.{each_occurs, rooted_trigger};
 
-use crate::keeping::{Keeping, keep, numbers_at};
+use crate::keeping::{keep, numbers_at};
+use crate::marks::reach;
 use formula_draft::FormulaDraft;
 use graph_terms::Memory;
 use graph_trigger::{PatternRow, Trigger};
@@ -21,8 +22,9 @@ fn make_trigger(
 ) -> Result<Trigger, Memory>
     ensures { IfOk result (λ trigger. trigger ≡ trigger_of variables draft.now.rows roots.now) }
 {
-    let Keeping { numbers, rows } = keep(alloc, draft, roots)?;
-    let roots = numbers_at(alloc, numbers.as_slice(), roots)?;
+    let places = reach(alloc, draft, roots)?;
+    let rows = keep(alloc, draft, places.as_slice())?;
+    let roots = numbers_at(alloc, places.as_slice(), roots)?;
     Ok(Trigger {
         forall: 0,
         place: 0,

@@ -11,7 +11,7 @@ ghost use Rattle.smt_terms.specs.Machine.{scope_of};
 use crate::cursor::{kind_at, place_at, text_at};
 use crate::inside::Inside;
 use formula_draft::{DraftRow, FormulaDraft};
-use smt_forms::{apply, put_row};
+use smt_forms::{Site, apply, put_row};
 use smt_names::{BoundNames, Head, Refusal, SessionState, Stands, Stop, Value, is_reserved};
 use smt_text::{Kind, Place, Tree};
 use std::alloc::Global;
@@ -67,7 +67,10 @@ fn put_free(
                 Err(Stop::of_name(alloc, Refusal::UnknownName, at, name))
             }
         }
-        head => apply(alloc, draft, state, at, at, name, head, &[]),
+        head => {
+            let site = Site { at, head: at };
+            apply(alloc, draft, state, site, name, head, &[])
+        }
     }
 }
 

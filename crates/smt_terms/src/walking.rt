@@ -22,7 +22,7 @@ use crate::tokens::put_token;
 use crate::walked::Walked;
 use crate::work::Work;
 use formula_draft::FormulaDraft;
-use smt_forms::apply;
+use smt_forms::{Site, apply};
 use smt_names::{Arg, BoundNames, Refusal, SessionState, Stop, Value};
 use smt_text::{Place, Tree};
 use std::alloc::Global;
@@ -42,8 +42,10 @@ fn value_of_list(
             alloc,
             draft,
             state,
-            frame.paren,
-            frame.head,
+            Site {
+                at: frame.paren,
+                head: frame.head,
+            },
             text_at(tree, *called),
             *head,
             args.as_slice(),

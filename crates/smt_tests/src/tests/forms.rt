@@ -2,13 +2,18 @@
 use em_outside::Limits;
 use formula_draft::{DraftNode, DraftRow, FormulaDraft};
 use graph_terms::Numbers;
-use smt_forms::{apply, put_node, put_row};
+use smt_forms::{Site, apply, put_node, put_row};
 use smt_names::{Arg, Connective, Definition, Head, Refusal, SessionState, Signature, Stop, Value};
 use smt_text::{Kind, Place};
-use std::alloc::Global;
+use std::alloc::{AllocError, Global};
 use std::test::Fail;
 
 const HERE: Place = Place { line: 1, column: 9 };
+
+const SITE: Site = Site {
+    at: HERE,
+    head: HERE,
+};
 
 fn arg(value: Value) -> Arg {
     Arg { place: HERE, value }
@@ -27,40 +32,51 @@ fn term(row: u32) -> Arg {
     arg(Value::Term { row, sort: 1 })
 }
 
+/// What a connective is put over: formulas with complements, or terms.
+#[derive(Clone, Copy)]
+enum Over {
+    Formulas,
+    Terms,
+}
+
+/// Connectives, over so many arguments: how many nodes are put, and the node that it is.
+const ROWS: &[(Connective, Over, usize, u32, u32)] = &[
+    (Connective::True, Over::Formulas, 0, 2, 0),
+    (Connective::Not, Over::Formulas, 1, 0, 31),
+    (Connective::And, Over::Formulas, 3, 2, 0),
+    (Connective::Xor, Over::Formulas, 3, 12, 10),
+    (Connective::Equals, Over::Terms, 3, 6, 4),
+    (Connective::Distinct, Over::Terms, 3, 8, 6),
+    (Connective::Ite, Over::Formulas, 3, 6, 4),
+];
+
+/// At most three arguments.
+fn args(alloc: Global, over: Over, count: usize) -> Result<Vec<Arg>, AllocError> {
+    let three = match over {
+        Over::Formulas => [formula(30, 31), formula(32, 33), formula(34, 35)],
+        Over::Terms => [term(0), term(1), term(2)],
+    };
+    let mut args = Vec::from_slice(alloc, &three)?;
+    args.truncate(count);
+    Ok(args)
+}
+
 /// How many nodes a connective puts for these arguments, and the node that it is.
-fn count(alloc: Global, connective: Connective, args: &[Arg]) -> Result<(u32, u32), Stop> {
+fn put(alloc: Global, connective: Connective, args: &[Arg]) -> Result<(u32, u32), Stop> {
     let mut draft = FormulaDraft::new(alloc, 100, 100);
     let state = SessionState::new(alloc, &Limits::standard());
     let head = Head::Core(connective);
-    let value = apply(
-        alloc,
-        &mut draft,
-        &state,
-        HERE,
-        HERE,
-        b"".as_slice(),
-        head,
-        args,
-    )?;
+    let value = apply(alloc, &mut draft, &state, SITE, b"", head, args)?;
     Ok((draft.nodes(), value.node()))
 }
 
 #[test]
 fn each_connective_puts_its_nodes(rt: HostRuntime) -> Result<(), Fail> {
-    let alloc = rt.alloc();
-    let three = [formula(30, 31), formula(32, 33), formula(34, 35)];
-    let terms = [term(0), term(1), term(2)];
-    assert_eq!(rt; count(alloc, Connective::True, &[])?, (2, 0));
-    assert_eq!(rt; count(alloc, Connective::False, &[])?, (2, 1));
-    assert_eq!(rt; count(alloc, Connective::Not, &three[..1])?, (0, 31));
-    assert_eq!(rt; count(alloc, Connective::And, &three)?, (2, 0));
-    assert_eq!(rt; count(alloc, Connective::Or, &three)?, (2, 0));
-    assert_eq!(rt; count(alloc, Connective::Implies, &three)?, (2, 0));
-    assert_eq!(rt; count(alloc, Connective::Xor, &three)?, (12, 10));
-    assert_eq!(rt; count(alloc, Connective::Equals, &terms)?, (6, 4));
-    assert_eq!(rt; count(alloc, Connective::Distinct, &three)?, (2, 0));
-    assert_eq!(rt; count(alloc, Connective::Distinct, &terms)?, (8, 6));
-    assert_eq!(rt; count(alloc, Connective::Ite, &three)?, (6, 4));
+    for (connective, over, count, nodes, node) in ROWS {
+        let args = args(rt.alloc(), *over, *count)?;
+        let found = put(rt.alloc(), *connective, args.as_slice())?;
+        assert_eq!(rt; found, (*nodes, *node), "{connective:?}");
+    }
     Ok(())
 }
 
@@ -81,7 +97,7 @@ fn atom(alloc: Global, state: &SessionState) -> Result<Definition, Stop> {
     let args = [term(row)];
     let p = b"p".as_slice();
     let head = Head::Function(0);
-    let value = apply(alloc, &mut draft, state, HERE, HERE, p, head, &args)?;
+    let value = apply(alloc, &mut draft, state, SITE, p, head, &args)?;
     let parameters = Numbers::from_slice(alloc, &[1])?;
     Ok(Definition {
         parameters,
@@ -111,7 +127,7 @@ fn defined(alloc: Global, state: &SessionState) -> Result<(u32, u32, u32), Stop>
     let args = [term(row)];
     let d = b"d".as_slice();
     let head = Head::Definition(0);
-    let value = apply(alloc, &mut draft, state, HERE, HERE, d, head, &args)?;
+    let value = apply(alloc, &mut draft, state, SITE, d, head, &args)?;
     Ok((draft.rows(), draft.nodes(), value.node()))
 }
 

@@ -71,52 +71,43 @@ fn definition(alloc: Global) -> Result<Definition, Memory> {
 /// Two sorts, a function in a level, and a definition in a level more.
 fn declared(alloc: Global) -> Result<SessionState, Stop> {
     let mut state = SessionState::new(alloc, &Limits::standard());
-    declare_sort(&mut state, b"U".as_slice())?;
-    declare_sort(&mut state, b"V".as_slice())?;
+    declare_sort(&mut state, b"U")?;
+    declare_sort(&mut state, b"V")?;
     open_level(&mut state)?;
-    declare_function(&mut state, b"f".as_slice(), signature(alloc)?)?;
+    declare_function(&mut state, b"f", signature(alloc)?)?;
     open_level(&mut state)?;
-    define(&mut state, b"d".as_slice(), definition(alloc)?)?;
+    define(&mut state, b"d", definition(alloc)?)?;
     Ok(state)
 }
 
-fn has_head(state: &SessionState, name: &[u8], head: Head) -> bool {
-    state.head(name) == head
-}
-
-fn has_sort(state: &SessionState, name: &[u8], sort: Option<u32>) -> bool {
-    state.sort(name) == sort
-}
-
-/// Whether the function and the definition at place 0 have these sorts.
-fn has_sorts(state: &SessionState, function: u32, definition: u32) -> bool {
-    match state.signature(0) {
+/// What is known of the state: what `f` and `d` stand for, the number of the sort V, and the name of the first function.
+fn known(state: &SessionState) -> (Head, Head, Option<u32>, bool) {
+    let named = match state.function_name(0) {
         None => false,
-        Some(found) => {
-            if found.sort != function {
-                return false;
-            }
-            match state.definition(0) {
-                None => false,
-                Some(found) => found.sort == definition,
-            }
-        }
-    }
+        Some(found) => found == b"f".as_slice(),
+    };
+    (state.head(b"f"), state.head(b"d"), state.sort(b"V"), named)
 }
 
-fn has_name(state: &SessionState, name: &[u8]) -> bool {
-    match state.function_name(0) {
-        None => false,
-        Some(found) => found == name,
-    }
+/// The sorts of the values of the first function and the first definition.
+fn sorts(state: &SessionState) -> (Option<u32>, Option<u32>) {
+    let function = match state.signature(0) {
+        None => None,
+        Some(found) => Some(found.sort),
+    };
+    let definition = match state.definition(0) {
+        None => None,
+        Some(found) => Some(found.sort),
+    };
+    (function, definition)
 }
 
 /// The refusal of a step that was refused.
-fn refusal<T: Drop>(step: Result<T, Stop>) -> Option<Refusal> {
+fn refusal<T: Drop>(step: Result<T, Stop>) -> Result<Option<Refusal>, Memory> {
     match step {
-        Ok(_) => None,
-        Err(Stop::Memory) => Some(Refusal::Memory),
-        Err(Stop::Refused(fault)) => Some(fault.refusal),
+        Ok(_) => Ok(None),
+        Err(Stop::Memory) => Err(Memory),
+        Err(Stop::Refused(fault)) => Ok(Some(fault.refusal)),
     }
 }
 
@@ -125,18 +116,13 @@ fn names_stand_for_what_was_declared_until_their_level_is_closed(
     rt: HostRuntime,
 ) -> Result<(), Fail> {
     let mut state = declared(rt.alloc())?;
-    assert!(rt; has_head(&state, b"=>".as_slice(), Head::Core(Connective::Implies)));
-    assert!(rt; has_head(&state, b"f".as_slice(), Head::Function(0)));
-    assert!(rt; has_head(&state, b"d".as_slice(), Head::Definition(0)));
-    assert!(rt; has_head(&state, b"U".as_slice(), Head::Unknown));
-    assert!(rt; has_sort(&state, b"V".as_slice(), Some(2)));
-    assert!(rt; has_name(&state, b"f".as_slice()));
-    assert!(rt; has_sorts(&state, 1, 0));
+    let all = (Head::Function(0), Head::Definition(0), Some(2), true);
+    assert_eq!(rt; known(&state), all);
+    assert_eq!(rt; sorts(&state), (Some(1), Some(0)));
     close_level(&mut state);
-    assert!(rt; has_head(&state, b"d".as_slice(), Head::Unknown));
-    assert!(rt; has_head(&state, b"f".as_slice(), Head::Function(0)));
-    close_level(&mut state);
-    assert!(rt; has_head(&state, b"f".as_slice(), Head::Unknown));
+    let left = (Head::Function(0), Head::Unknown, Some(2), true);
+    assert_eq!(rt; known(&state), left);
+    assert!(rt; state.head(b"=>") == Head::Core(Connective::Implies));
     Ok(())
 }
 
@@ -145,52 +131,55 @@ fn clearing_keeps_the_option_and_a_reset_does_not(rt: HostRuntime) -> Result<(),
     let mut state = declared(rt.alloc())?;
     state.set_prints_success(true);
     state.clear();
-    assert!(rt; has_sort(&state, b"U".as_slice(), None));
-    assert!(rt; state.prints_success());
+    assert_eq!(rt; (state.sort(b"U"), state.prints_success()), (None, true));
     state.reset();
     assert!(rt; !state.prints_success());
     Ok(())
 }
 
-fn function_refusal(state: &SessionState, name: &[u8]) -> Option<Refusal> {
+fn function_refusal(state: &SessionState, name: &[u8]) -> Result<Option<Refusal>, Memory> {
     refusal(state.check_function_name(Kind::Symbol, HERE, name))
 }
 
-fn sort_refusal(state: &SessionState, name: &[u8]) -> Option<Refusal> {
+fn sort_refusal(state: &SessionState, name: &[u8]) -> Result<Option<Refusal>, Memory> {
     refusal(state.check_sort_name(Kind::Symbol, HERE, name))
 }
 
 #[test]
 fn names_are_refused_for_the_first_reason(rt: HostRuntime) -> Result<(), Fail> {
     let state = declared(rt.alloc())?;
-    let bad = Some(Refusal::BadForm);
-    let again = Some(Refusal::AlreadyDeclared);
-    assert_eq!(rt; function_refusal(&state, b"g".as_slice()), None);
-    assert_eq!(rt; function_refusal(&state, b"f".as_slice()), again);
-    assert_eq!(rt; function_refusal(&state, b"par".as_slice()), bad);
-    assert_eq!(rt; function_refusal(&state, b"@g".as_slice()), bad);
-    assert_eq!(rt; sort_refusal(&state, b"f".as_slice()), None);
-    assert_eq!(rt; sort_refusal(&state, b"U".as_slice()), again);
+    assert_eq!(rt; function_refusal(&state, b"g")?, None);
+    assert_eq!(rt;
+        function_refusal(&state, b"f")?,
+        Some(Refusal::AlreadyDeclared)
+    );
+    assert_eq!(rt; sort_refusal(&state, b"let")?, Some(Refusal::BadForm));
     Ok(())
 }
 
 /// The refusals of a sort, and of one other than Bool.
-fn token_refusals(state: &SessionState, name: &[u8]) -> (Option<Refusal>, Option<Refusal>) {
-    let any = refusal(state.sort_of_token(Kind::Symbol, HERE, name));
-    let other = refusal(state.other_sort_of_token(Kind::Symbol, HERE, name));
-    (any, other)
+fn token_refusals(
+    state: &SessionState,
+    name: &[u8],
+) -> Result<(Option<Refusal>, Option<Refusal>), Memory> {
+    let any = refusal(state.sort_of_token(Kind::Symbol, HERE, name))?;
+    let other = refusal(state.other_sort_of_token(Kind::Symbol, HERE, name))?;
+    Ok((any, other))
 }
 
 #[test]
 fn bool_is_a_sort_and_no_other_sort(rt: HostRuntime) -> Result<(), Fail> {
     let state = declared(rt.alloc())?;
-    let (any, other) = token_refusals(&state, b"Bool".as_slice());
-    assert_eq!(rt; any, None);
-    assert_eq!(rt; other, Some(Refusal::NotInProfile));
-    let name = check_lawful_name(rt.alloc(), Kind::Keyword, HERE, b":g".as_slice());
-    assert_eq!(rt; refusal(name), Some(Refusal::BadForm));
-    assert!(rt; is_keyword(Kind::Keyword));
-    assert!(rt; is_numeral(Kind::Numeral));
+    let refused = (None, Some(Refusal::NotInProfile));
+    assert_eq!(rt; token_refusals(&state, b"Bool")?, refused);
+    Ok(())
+}
+
+#[test]
+fn a_keyword_is_no_name(rt: HostRuntime) -> Result<(), Fail> {
+    let name = check_lawful_name(rt.alloc(), Kind::Keyword, HERE, b":g");
+    assert_eq!(rt; refusal(name)?, Some(Refusal::BadForm));
+    assert!(rt; is_keyword(Kind::Keyword) && is_numeral(Kind::Numeral));
     Ok(())
 }
 
@@ -206,27 +195,23 @@ fn the_last_binding_of_a_name_wins(rt: HostRuntime) -> Result<(), Fail> {
     let mut bound = BoundNames::new(rt.alloc());
     let value = Stands::Given(Value::Term { row: 7, sort: 1 });
     let variable = Stands::Variable { index: 0, sort: 1 };
-    bound.push(b"x".as_slice(), variable)?;
-    bound.push(b"y".as_slice(), variable)?;
-    bound.push(b"x".as_slice(), value)?;
-    assert_eq!(rt; stands_of(&bound, b"x".as_slice()), Some(value));
-    assert_eq!(rt; bound.len(), 3);
-    bound.truncate(2);
-    assert_eq!(rt; stands_of(&bound, b"x".as_slice()), Some(variable));
-    assert_eq!(rt; stands_of(&bound, b"z".as_slice()), None);
+    bound.push(b"x", variable)?;
+    bound.push(b"x", value)?;
+    assert_eq!(rt; stands_of(&bound, b"x"), Some(value));
+    bound.truncate(1);
+    assert_eq!(rt; stands_of(&bound, b"x"), Some(variable));
+    assert_eq!(rt; bound.len(), 1);
     Ok(())
 }
 
 #[test]
 fn a_name_stands_once_among_distinct_names(rt: HostRuntime) -> Result<(), Fail> {
     let mut names = DistinctNames::new(rt.alloc());
-    assert!(rt; !names.contains(b"x".as_slice()));
-    names.push(b"x".as_slice())?;
-    if !names.contains(b"y".as_slice()) {
-        names.push(b"y".as_slice())?;
+    if !names.contains(b"x") {
+        names.push(b"x")?;
     }
-    assert_eq!(rt; names.find(b"y".as_slice()), Some(1));
-    assert_eq!(rt; names.find(b"z".as_slice()), None);
+    assert_eq!(rt; names.find(b"x"), Some(0));
+    assert_eq!(rt; names.find(b"z"), None);
     Ok(())
 }
 

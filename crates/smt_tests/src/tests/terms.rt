@@ -7,6 +7,7 @@ use smt_names::{BoundNames, Refusal, SessionState, Signature, Stop};
 use smt_terms::{Inside, elaborate_term};
 use smt_text::{Kind, Place, Tree, TreeReader};
 use std::alloc::Global;
+use std::process::Abort;
 use std::test::Fail;
 
 const HERE: Place = Place { line: 1, column: 1 };
@@ -16,22 +17,14 @@ const HERE: Place = Place { line: 1, column: 1 };
 enum Came {
     /// A forall: how many rows and nodes there are, how many triggers and patterns of the first it has, and the symbol of
     /// the first pattern.
-    Forall {
-        rows: u32,
-        nodes: u32,
-        triggers: u32,
-        patterns: u32,
-        symbol: u32,
-    },
+    Forall(u32, u32, u32, u32, u32),
     /// A refusal, at a column of the first line, and how long the name is that it speaks of.
-    Refused {
-        refusal: Refusal,
-        column: u32,
-        name: usize,
-    },
+    Refused(Refusal, u32, usize),
     /// No forall with a trigger that keeps to the rules, or no memory.
     Other,
 }
+
+use Came::{Forall, Refused};
 
 fn declare(
     alloc: Global,
@@ -81,13 +74,14 @@ fn forall_so(rows: u32, nodes: u32, forall: &DraftForall) -> Came {
     if !first.valid() {
         return Came::Other;
     }
-    Came::Forall {
+    let patterns = first.roots.len();
+    Forall(
         rows,
         nodes,
-        triggers: forall.triggers.len(),
-        patterns: first.roots.as_slice().len() as u32,
-        symbol: first_symbol(first),
-    }
+        forall.triggers.len(),
+        patterns,
+        first_symbol(first),
+    )
 }
 
 /// What comes of the tree at the beginning of a command.
@@ -100,11 +94,11 @@ fn came_of_tree(alloc: Global, state: &SessionState, tree: &Tree) -> Came {
     };
     match elaborate_term(alloc, &mut draft, state, tree, &mut bound, inside, 0, HERE) {
         Err(Stop::Memory) => Came::Other,
-        Err(Stop::Refused(fault)) => Came::Refused {
-            refusal: fault.refusal,
-            column: fault.place.column,
-            name: fault.name.as_slice().len(),
-        },
+        Err(Stop::Refused(fault)) => Refused(
+            fault.refusal,
+            fault.place.column,
+            fault.name.as_slice().len(),
+        ),
         Ok(_) => {
             if draft.foralls() == 0 {
                 return Came::Other;
@@ -124,131 +118,116 @@ fn came_of(alloc: Global, state: &SessionState, text: &str) -> Result<Came, Fail
     }
 }
 
-fn forall(rows: u32, nodes: u32, triggers: u32, patterns: u32, symbol: u32) -> Came {
-    Came::Forall {
-        rows,
-        nodes,
-        triggers,
-        patterns,
-        symbol,
+/// Each formula comes to this.
+fn check(rt: &impl Abort, alloc: Global, rows: &[(&'static str, Came)]) -> Result<(), Fail> {
+    let state = declared(alloc)?;
+    for (text, came) in rows {
+        let found = came_of(alloc, &state, text)?;
+        assert_eq!(rt; found, *came, "{text}");
     }
+    Ok(())
 }
 
-fn refused(refusal: Refusal, column: u32) -> Came {
-    Came::Refused {
-        refusal,
-        column,
-        name: 0,
-    }
-}
+const FORALLS: &[(&str, Came)] = &[
+    (
+        "(forall ((x U)) (! (p x) :pattern ((p x))))",
+        Forall(2, 3, 1, 1, 2),
+    ),
+    (
+        "(forall ((x U) (y U)) (! (= (g x (f y)) x) :pattern ((f x) (f y)) :pattern ((g x (f y)))))",
+        Forall(5, 3, 2, 2, 3),
+    ),
+    (
+        "(forall ((x U)) (! (! (p x) :named n :pattern ((p x))) :pattern ((f x))))",
+        Forall(3, 3, 2, 1, 3),
+    ),
+    (
+        "(let ((c true)) (forall ((x U)) (! (and (p x) c) :pattern ((! (p x) :named n)))))",
+        Forall(2, 7, 1, 1, 2),
+    ),
+];
 
 #[test]
 fn foralls_have_their_triggers_in_order(rt: HostRuntime) -> Result<(), Fail> {
-    let state = declared(rt.alloc())?;
-    for (text, came) in [
-        (
-            "(forall ((x U)) (! (p x) :pattern ((p x))))",
-            forall(2, 3, 1, 1, 2),
-        ),
-        (
-            "(forall ((x U) (y U)) (! (= (g x (f y)) x) :pattern ((f x) (f y)) :pattern ((g x (f y)))))",
-            forall(5, 3, 2, 2, 3),
-        ),
-        (
-            "(forall ((x U)) (! (! (p x) :named n :pattern ((p x))) :pattern ((f x))))",
-            forall(3, 3, 2, 1, 3),
-        ),
-        (
-            "(let ((c true)) (forall ((x U)) (! (and (p x) c) :pattern ((! (p x) :named n)))))",
-            forall(2, 7, 1, 1, 2),
-        ),
-    ] {
-        assert_eq!(rt; came_of(rt.alloc(), &state, text)?, came, "{text}");
-    }
-    Ok(())
+    check(&rt, rt.alloc(), FORALLS)
 }
+
+const FAULTS: &[(&str, Came)] = &[
+    (
+        "(forall ((x U)) (p x))",
+        Refused(Refusal::NotInProfile, 2, 0),
+    ),
+    (
+        "(forall ((x U)) (! (f x) :pattern ((p x))))",
+        Refused(Refusal::WrongSort, 20, 0),
+    ),
+    (
+        "(forall ((x U)) (! (p x) :pattern))",
+        Refused(Refusal::BadForm, 26, 0),
+    ),
+    (
+        "(forall ((x U)) (! (p x) :pattern :named n))",
+        Refused(Refusal::BadForm, 26, 0),
+    ),
+    (
+        "(forall ((x U)) (! (p x) :pattern x))",
+        Refused(Refusal::BadForm, 35, 0),
+    ),
+    (
+        "(forall ((x U)) (! (p x) :pattern ()))",
+        Refused(Refusal::BadForm, 35, 0),
+    ),
+    (
+        "(forall ((x U)) (! (p x) :pattern (x)))",
+        Refused(Refusal::PatternIsVariable, 36, 0),
+    ),
+    (
+        "(forall ((x U)) (! (p x) :pattern ((not (p x)))))",
+        Refused(Refusal::PatternHasConnective, 36, 0),
+    ),
+    (
+        "(forall ((x U)) (! (p x) :pattern ((f x) (= x x))))",
+        Refused(Refusal::PatternHasConnective, 42, 0),
+    ),
+    (
+        "(forall ((x U)) (! (p x) :pattern ((p x) 3)))",
+        Refused(Refusal::NotInProfile, 42, 0),
+    ),
+    (
+        "(forall ((x U)) (! (p x) :pattern ((forall ((y U)) (p y)))))",
+        Refused(Refusal::NotInProfile, 37, 0),
+    ),
+];
 
 #[test]
 fn each_fault_of_a_trigger_has_its_place(rt: HostRuntime) -> Result<(), Fail> {
-    let state = declared(rt.alloc())?;
-    for (text, came) in [
-        ("(forall ((x U)) (p x))", refused(Refusal::NotInProfile, 2)),
-        (
-            "(forall ((x U)) (! (f x) :pattern ((p x))))",
-            refused(Refusal::WrongSort, 20),
-        ),
-        (
-            "(forall ((x U)) (! (p x) :pattern))",
-            refused(Refusal::BadForm, 26),
-        ),
-        (
-            "(forall ((x U)) (! (p x) :pattern :named n))",
-            refused(Refusal::BadForm, 26),
-        ),
-        (
-            "(forall ((x U)) (! (p x) :pattern x))",
-            refused(Refusal::BadForm, 35),
-        ),
-        (
-            "(forall ((x U)) (! (p x) :pattern ()))",
-            refused(Refusal::BadForm, 35),
-        ),
-        (
-            "(forall ((x U)) (! (p x) :pattern (x)))",
-            refused(Refusal::PatternIsVariable, 36),
-        ),
-        (
-            "(forall ((x U)) (! (p x) :pattern ((not (p x)))))",
-            refused(Refusal::PatternHasConnective, 36),
-        ),
-        (
-            "(forall ((x U)) (! (p x) :pattern ((f x) (= x x))))",
-            refused(Refusal::PatternHasConnective, 42),
-        ),
-        (
-            "(forall ((x U)) (! (p x) :pattern ((p x) 3)))",
-            refused(Refusal::NotInProfile, 42),
-        ),
-        (
-            "(forall ((x U)) (! (p x) :pattern ((forall ((y U)) (p y)))))",
-            refused(Refusal::NotInProfile, 37),
-        ),
-    ] {
-        assert_eq!(rt; came_of(rt.alloc(), &state, text)?, came, "{text}");
-    }
-    Ok(())
+    check(&rt, rt.alloc(), FAULTS)
 }
+
+const LARGE: &[(&str, Came)] = &[
+    (
+        "(forall ((x U) (why U)) (! (p x) :pattern ((p x) (f x))))",
+        Refused(Refusal::PatternWithoutVariable, 43, 3),
+    ),
+    (
+        "(forall ((x U)) (! (p x) :pattern ((p x) (p x) (p x) (p x) (p x) (p x) (p x) (p x) (p x) (p x) (p x) (p x) (p x) (p x) (p x) (p x))))",
+        Forall(2, 3, 1, 16, 2),
+    ),
+    (
+        "(forall ((x U)) (! (p x) :pattern (x (p x) (p x) (p x) (p x) (p x) (p x) (p x) (p x) (p x) (p x) (p x) (p x) (p x) (p x) (p x) h)))",
+        Refused(Refusal::TooManyPatterns, 128, 0),
+    ),
+    (
+        "(forall ((x U)) (! (p x) :pattern ((let ((x (g x x))) (let ((x (g x x))) (let ((x (g x x))) (let ((x (g x x))) (let ((x (g x x))) (let ((x (g x x))) (let ((x (g x x))) (f x))))))))))))",
+        Forall(10, 3, 1, 1, 3),
+    ),
+    (
+        "(forall ((x U)) (! (p x) :pattern ((let ((x (g x x))) (let ((x (g x x))) (let ((x (g x x))) (let ((x (g x x))) (let ((x (g x x))) (let ((x (g x x))) (let ((x (g x x))) (f (f x)))))))))))))",
+        Refused(Refusal::PatternTooLarge, 36, 0),
+    ),
+];
 
 #[test]
 fn a_trigger_has_each_variable_and_not_too_much(rt: HostRuntime) -> Result<(), Fail> {
-    let state = declared(rt.alloc())?;
-    for (text, came) in [
-        (
-            "(forall ((x U) (why U)) (! (p x) :pattern ((p x) (f x))))",
-            Came::Refused {
-                refusal: Refusal::PatternWithoutVariable,
-                column: 43,
-                name: 3,
-            },
-        ),
-        (
-            "(forall ((x U)) (! (p x) :pattern ((p x) (p x) (p x) (p x) (p x) (p x) (p x) (p x) (p x) (p x) (p x) (p x) (p x) (p x) (p x) (p x))))",
-            forall(2, 3, 1, 16, 2),
-        ),
-        (
-            "(forall ((x U)) (! (p x) :pattern (x (p x) (p x) (p x) (p x) (p x) (p x) (p x) (p x) (p x) (p x) (p x) (p x) (p x) (p x) (p x) h)))",
-            refused(Refusal::TooManyPatterns, 128),
-        ),
-        (
-            "(forall ((x U)) (! (p x) :pattern ((let ((x (g x x))) (let ((x (g x x))) (let ((x (g x x))) (let ((x (g x x))) (let ((x (g x x))) (let ((x (g x x))) (let ((x (g x x))) (f x))))))))))))",
-            forall(10, 3, 1, 1, 3),
-        ),
-        (
-            "(forall ((x U)) (! (p x) :pattern ((let ((x (g x x))) (let ((x (g x x))) (let ((x (g x x))) (let ((x (g x x))) (let ((x (g x x))) (let ((x (g x x))) (let ((x (g x x))) (f (f x)))))))))))))",
-            refused(Refusal::PatternTooLarge, 36),
-        ),
-    ] {
-        assert_eq!(rt; came_of(rt.alloc(), &state, text)?, came, "{text}");
-    }
-    Ok(())
+    check(&rt, rt.alloc(), LARGE)
 }

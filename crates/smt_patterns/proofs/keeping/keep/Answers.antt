@@ -1,9 +1,16 @@
-use Rattle.std.proofs.Common.{Bool, false, List, length, get_or, ap, ◌∙◌}
-use Rattle.smt_patterns.specs.Patterns.{kept_if}
-use Rattle.smt_patterns.specs.Patterns.{kept_so}
-use Rattle.smt_patterns.proofs.PatternLemmas.{kept_next}
+use Rattle.std.proofs.Common.{List, [], ◌∷◌, ◌++◌, map, take, get_or, refl, sym, ap, ap₂, ◌∙◌}
+use Rattle.std.proofs.lemmas.List.{take_more, map-append}
+use Rattle.graph_trigger.specs.declared.pattern_row.PatternRow.{PatternRow}
+use Rattle.smt_patterns.specs.Places.{kept_row}
+use Rattle.smt_patterns.proofs.KeepLemmas.{places_before}
 use Rattle.smt_patterns.proofs.keeping.keep.Goals as goal
 
 pub loop-i-preserved : goal.loop-i-preserved
-loop-i-preserved c = kept_next c.in_ok-marks.marks.items (kept_so c.loop-i.keeping) (kept_so c.keep_marked.new.keeping) c.args.draft.now.rows c.loop-i.i c.row_at.result.now c.row_at.ensures
-    (c.in_ok-keep_marked.ensures ∙ ap (λ (marks : List Bool). kept_if (get_or marks (length c.loop-i.keeping.numbers.items) false) (kept_so c.loop-i.keeping) c.row_at.result.now) c.as_slice.ensures.value) ∙ c.loop-i.invariant
+loop-i-preserved c marks rows are =
+    let places = c.args.places.now in
+    let i = c.loop-i.i in
+    let place = get_or places i 0 in
+    let row = kept_row c.args.draft.now.rows marks in
+    c.in_ok-push.ensures.ok
+    ∙ ap₂ (λ (kept : List PatternRow) (new : PatternRow). kept ++ new ∷ []) (c.loop-i.invariant marks rows are) (c.in_ok-new.ensures marks (places_before rows i place marks places are c.loop-i-test.true refl))
+    ∙ sym (ap (map row) (take_more places i 0 c.loop-i-test.true) ∙ map-append row (take i places) (place ∷ []))
