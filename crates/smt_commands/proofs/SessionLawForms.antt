@@ -5,6 +5,7 @@ use Rattle.std.proofs.lemmas.Option.{none-some, same_Some}
 use Rattle.std.proofs.lemmas.List.Elements.{All-nil, All-cons}
 use Rattle.smt_text.specs.Word.{Word}
 use Rattle.smt_text.specs.declared.token.Place.{Place}
+use Rattle.graph_terms.specs.Terms.{most_args}
 use Rattle.formula_draft.specs.Draft.{Draft}
 use Rattle.smt_names.specs.declared.bound.Bound.{Bound}
 use Rattle.smt_names.specs.declared.signature.Signature.{Signature}
@@ -145,9 +146,9 @@ others_list most paren meaning inner trees sort sorts some are = record { others
     few zero ends = cc
     few (suc n) ends = omega (arith, are.few n ends)
 
--- sorts of arguments: at most 255, of which none is Bool, among so many
+-- sorts of arguments: at most most_args, of which none is Bool, among so many
 pub record AreFew (most : ℕ) (sorts : List ℕ) : Type 0 where
-  pub few : length sorts ≤ 255
+  pub few : length sorts ≤ most_args
   pub others : All (λ sort. 1 ≤ sort) sorts
   pub known : All (λ sort. sort ≤ most) sorts
 
@@ -168,11 +169,11 @@ module _ (draft : Draft) (state : State) where
 
   checks_argument_sorts : (listed : Listed) → Checked (AreFew (length state.sorts)) draft (argument_sorts state listed draft)
   checks_argument_sorts listed =
-      checked_then draft _ (checks_no_more draft refusal.TooManyArguments (from 255 listed.inner)) λ _ ends.
+      checked_then draft _ (checks_no_more draft refusal.TooManyArguments (from most_args listed.inner)) λ _ ends.
       few_of (checks_other_sorts listed.paren.place listed.inner) ends
     where
-      few_of : {r : Result (List ℕ × Draft) SyntaxFault} → Checked (AreOthers (length state.sorts) listed.inner) draft r → from 255 listed.inner ≡ End → Checked (AreFew (length state.sorts)) draft r
-      few_of (checked are) ends = checked (record { few = are.few 255 ends; others = are.others; known = are.known })
+      few_of : {r : Result (List ℕ × Draft) SyntaxFault} → Checked (AreOthers (length state.sorts) listed.inner) draft r → from most_args listed.inner ≡ End → Checked (AreFew (length state.sorts)) draft r
+      few_of (checked are) ends = checked (record { few = are.few most_args ends; others = are.others; known = are.known })
       few_of stopped ends = stopped
 
   checks_arguments : (head : Place) (parts : Meant) → Checked (AreFew (length state.sorts)) draft (arguments_first state head parts draft)
@@ -203,7 +204,7 @@ module _ (draft : Draft) where
   checks_no_binding refusal trees = checked (tt {0})
 
   checks_few_bindings : (trees : Meant) → Checked Anything draft (few_bindings trees draft)
-  checks_few_bindings trees = checked_then draft _ (checks_bindings [] trees) λ _ _. checks_no_binding refusal.TooManyArguments (from 255 trees)
+  checks_few_bindings trees = checked_then draft _ (checks_bindings [] trees) λ _ _. checks_no_binding refusal.TooManyArguments (from most_args trees)
 
   checks_variables : (state : State) (index : ℕ) (trees : Meant) → Checked (λ variables. All (λ sort. sort ≤ length state.sorts) (sorts_of variables)) draft (variables_from state index trees draft)
   checks_variables state index (Group paren meaning (Token name given) after) =

@@ -6,6 +6,7 @@ use Rattle.std.specs.List.{list_any}
 use Rattle.smt_text.specs.Word.{Word}
 use Rattle.smt_text.specs.Trees.{tree_of}
 use Rattle.smt_text.specs.declared.token.Place.{Place}
+use Rattle.graph_terms.specs.Terms.{most_args}
 use Rattle.formula_draft.specs.Draft.{Draft, empty_draft, finished}
 use Rattle.smt_names.specs.declared.value.Value.{Value}
 use Rattle.smt_names.specs.declared.bound.Bound.{Bound}
@@ -196,10 +197,10 @@ named_form n state head parts = do
   exactly n head parts
   new_function state head parts
 
--- at most 255 sorts of arguments
+-- sorts of arguments, no more than an application may have
 abbrev pub argument_sorts : State → Listed → Making (List ℕ)
 argument_sorts state listed = do
-  no_more refusal.TooManyArguments (from 255 listed.inner)
+  no_more refusal.TooManyArguments (from most_args listed.inner)
   other_sorts state listed.paren.place listed.inner
 
 -- the list of the sorts of arguments that a first tree must be
@@ -248,18 +249,18 @@ defined state name parameters sort v draft = silent (record state {
       } ∷ [];
 }) draft
 
--- at most 255 bindings
+-- bindings, no more than an application may have arguments
 abbrev pub few_bindings : Meant → Making (Unit {0})
 few_bindings trees = do
   bindings_after [] trees
-  no_binding refusal.TooManyArguments (from 255 trees)
+  no_binding refusal.TooManyArguments (from most_args trees)
 
 abbrev pub parameters_of : State → Meant → Making (List Bound)
 parameters_of state trees = do
   few_bindings trees
   variables_from state 0 trees
 
--- the list of parameters that a first tree must be, of which there are at most 255
+-- the list of parameters that a first tree must be
 abbrev pub parameters_first : State → Place → Meant → Making (List Bound)
 parameters_first state head parts = do
   listed ← list_first head parts

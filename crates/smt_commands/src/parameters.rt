@@ -8,7 +8,7 @@ ghost use Rattle.smt_commands.specs.Commands.{few_bindings, parameters_first, pa
 ghost use Rattle.smt_commands.specs.Parameters.{HasParameters};
 
 use crate::parts::check_list;
-use graph_terms::{Memory, Numbers};
+use graph_terms::{MOST_ARGS, Memory, Numbers};
 use smt_names::{Bound, BoundNames, Refusal, SessionState, Stands, Stop};
 use smt_terms::{bind_all, check_few_bindings, check_names, variables_at};
 use smt_text::{Place, Tree};
@@ -21,13 +21,13 @@ pub(crate) struct Parameters {
     pub(crate) sorts: Numbers,
 }
 
-/// At most 255 bindings come next, to the end of the list.
+/// At most `MOST_ARGS` bindings come next, to the end of the list.
 fn check_parameters(alloc: Global, tree: &Tree, i: u32) -> Result<(), Stop>
     ensures { Checks result (few_bindings (here tree.now i)) }
 {
     match check_names(alloc, tree, i) {
         Err(stop) => Err(stop),
-        Ok(()) => check_few_bindings(alloc, tree, i, 255, Refusal::TooManyArguments),
+        Ok(()) => check_few_bindings(alloc, tree, i, MOST_ARGS, Refusal::TooManyArguments),
     }
 }
 

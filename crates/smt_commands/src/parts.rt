@@ -11,7 +11,7 @@ ghost use Rattle.smt_names.specs.declared.head.Head.TheVariants.{Unknown};
 ghost use Rattle.smt_commands.specs.Answers.{HasList};
 ghost use Rattle.smt_commands.specs.Commands.{argument_sorts, arguments_first, keyword_first, new_function, new_sort, no_arguments, numeral_first, other_sorts, plain_value, signature_first, symbol_first};
 
-use graph_terms::Numbers;
+use graph_terms::{MOST_ARGS, Numbers};
 use smt_names::{Refusal, SessionState, Signature, Stop, is_keyword, is_numeral, is_symbol};
 use smt_terms::{
     Seen, behind_one, behind_some, check_no_more, is_wide, kind_at, look, number_of, other_sort_at,
@@ -243,7 +243,7 @@ fn other_sorts_at(
     }
 }
 
-/// At most 255 sorts of arguments come next in the list at a parenthesis.
+/// At most `MOST_ARGS` sorts of arguments come next in the list at a parenthesis.
 fn argument_sorts_at(
     alloc: Global,
     state: &SessionState,
@@ -253,7 +253,7 @@ fn argument_sorts_at(
 ) -> Result<Numbers, Stop>
     ensures { Checks result (argument_sorts state.now (record { paren = word_at tree.now paren; inner = here tree.now inner })) }
 {
-    let behind = behind_some(tree, inner, 255);
+    let behind = behind_some(tree, inner, MOST_ARGS);
     match check_no_more(alloc, tree, behind, Refusal::TooManyArguments) {
         Err(stop) => Err(stop),
         Ok(()) => match other_sorts_at(alloc, state, tree, inner, place_at(tree, paren)) {
@@ -263,7 +263,7 @@ fn argument_sorts_at(
     }
 }
 
-/// A list of at most 255 sorts of arguments must come next.
+/// A list of at most `MOST_ARGS` sorts of arguments must come next.
 fn arguments_at(
     alloc: Global,
     state: &SessionState,

@@ -7,6 +7,7 @@ ghost use Rattle.smt_terms.specs.Cursor.{word_at, here, SeesList, SeesToken};
 ghost use Rattle.smt_terms.specs.Machine.{IsHeadOf, Opens, OpensForall, work_in};
 
 use crate::checks::{check_attributes, check_bindings, check_exactly};
+use crate::context::Context;
 use crate::cursor::{Seen, kind_at, look, place_at, text_at};
 use crate::form::Form;
 use crate::frame::Frame;
@@ -163,18 +164,16 @@ fn open_universal(alloc: Global, tree: &Tree, inside: Inside, i: u32) -> Result<
 
 /// A list begins whose head is a symbol.
 fn open_form(
-    alloc: Global,
-    state: &SessionState,
-    tree: &Tree,
+    context: &Context<'_>,
     frames: &mut Vec<Frame>,
     bound: &mut BoundNames,
-    inside: Inside,
     i: u32,
     after: u32,
 ) -> Result<Opened, Stop>
-    requires { SeesToken tree.now (i + 1) }
-    ensures { Opens tree.now state.now inside frames.old.items bound.old frames.new.items bound.new i after (3 + work_in tree.now frames.old.items (i + 2) after) (form_value (word_at tree.now i).place (word_at tree.now (i + 1)) (here tree.now (i + 2)) (form_of (word_at tree.now (i + 1)).text)) result }
+    requires { SeesToken context.now.tree.now (i + 1) }
+    ensures { Opens context.now.tree.now context.now.state.now context.now.inside frames.old.items bound.old frames.new.items bound.new i after (3 + work_in context.now.tree.now frames.old.items (i + 2) after) (form_value (word_at context.now.tree.now i).place (word_at context.now.tree.now (i + 1)) (here context.now.tree.now (i + 2)) (form_of (word_at context.now.tree.now (i + 1)).text)) result }
 {
+    let Context { alloc, state, tree, inside } = *context;
     let _len = tree.len();
     let head = place_at(tree, i + 1);
     match form_of_head(text_at(tree, i + 1)) {
@@ -188,18 +187,16 @@ fn open_form(
 
 /// A list begins.
 pub(crate) fn open_list(
-    alloc: Global,
-    state: &SessionState,
-    tree: &Tree,
+    context: &Context<'_>,
     frames: &mut Vec<Frame>,
     bound: &mut BoundNames,
-    inside: Inside,
     i: u32,
     after: u32,
 ) -> Result<Opened, Stop>
-    requires { SeesList tree.now i after }
-    ensures { Opens tree.now state.now inside frames.old.items bound.old frames.new.items bound.new i after (2 + work_in tree.now frames.old.items (i + 1) after) (list_value (word_at tree.now i) (here tree.now (i + 1))) result }
+    requires { SeesList context.now.tree.now i after }
+    ensures { Opens context.now.tree.now context.now.state.now context.now.inside frames.old.items bound.old frames.new.items bound.new i after (2 + work_in context.now.tree.now frames.old.items (i + 1) after) (list_value (word_at context.now.tree.now i) (here context.now.tree.now (i + 1))) result }
 {
+    let Context { alloc, tree, .. } = *context;
     let _len = tree.len();
     let head = i + 1;
     match look(tree, head) {
@@ -207,7 +204,7 @@ pub(crate) fn open_list(
         Seen::List { .. } => Err(Stop::at(alloc, Refusal::NotInProfile, place_at(tree, head))),
         Seen::Token => {
             if is_symbol(kind_at(tree, head)) {
-                open_form(alloc, state, tree, frames, bound, inside, i, after)
+                open_form(context, frames, bound, i, after)
             } else {
                 Err(Stop::at(alloc, Refusal::BadForm, place_at(tree, head)))
             }

@@ -9,42 +9,29 @@ ghost use Rattle.smt_terms.specs.Terms.{value};
 ghost use Rattle.smt_terms.specs.Cursor.{here};
 ghost use Rattle.smt_terms.specs.Machine.{scope_of};
 
+use crate::context::Context;
 use crate::cursor::{Seen, look, place_at};
-use crate::inside::Inside;
 use crate::walked::Walked;
 use crate::walking::walk;
 use formula_draft::FormulaDraft;
-use smt_names::{BoundNames, Refusal, SessionState, Stop, Value};
+use smt_names::{BoundNames, Refusal, Stop, Value};
 use smt_text::{Place, Tree};
 use std::alloc::Global;
 
 /// The value of the tree at a place inside a forall, where no further forall may stand.
 pub(crate) fn value_inside(
-    alloc: Global,
+    context: &Context<'_>,
     draft: &mut FormulaDraft,
-    state: &SessionState,
-    tree: &Tree,
     bound: &mut BoundNames,
-    inside: Inside,
     at: u32,
     missing: Place,
 ) -> Result<Value, Stop>
-    requires { inside.in_forall ≡ true }
-    ensures value { Makes result draft.old draft.new (value missing (scope_of state.now inside bound.old) (here tree.now at)) }
+    requires { context.now.inside.in_forall ≡ true }
+    ensures value { Makes result draft.old draft.new (value missing (scope_of context.now.state.now context.now.inside bound.old) (here context.now.tree.now at)) }
     ensures bound { OnOk result (bound.new ≡ bound.old) }
 {
-    let mut frames = Vec::new(alloc);
-    match walk(
-        alloc,
-        draft,
-        state,
-        tree,
-        missing,
-        &mut frames,
-        bound,
-        inside,
-        at,
-    ) {
+    let mut frames = Vec::new(context.alloc);
+    match walk(context, draft, missing, &mut frames, bound, at) {
         Err(stop) => Err(stop),
         Ok(Walked::Whole(value)) => Ok(value),
         Ok(Walked::Universal { .. }) => unreachable!(),

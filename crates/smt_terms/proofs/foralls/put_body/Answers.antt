@@ -9,16 +9,16 @@ use Rattle.smt_terms.proofs.CheckLemmas.{refuses_first, makes_as}
 use Rattle.smt_terms.proofs.foralls.put_body.Goals as goal
 
 pub returns-in-Err-clause-value : goal.returns-in-Err-clause-value
-returns-in-Err-clause-value c = refuses_first c.in-Err.stop (body_of [] (here c.args.tree.now c.args.body))
-    (λ (b : Body). quantified (word_at c.args.tree.now c.args.i).place (word_at c.args.tree.now (c.args.i + 1)).place (scope_of c.args.state.now c.args.inside c.args.bound.now) c.args.variables.now b) c.in-Err.ensures c.args.draft.now
+returns-in-Err-clause-value c = refuses_first c.in-Err.stop (body_of [] (here c.args.context.now.tree.now c.args.body))
+    (λ (b : Body). quantified (word_at c.args.context.now.tree.now c.args.i).place (word_at c.args.context.now.tree.now (c.args.i + 1)).place (scope_of c.args.context.now.state.now c.args.context.now.inside c.args.bound.now) c.args.variables.now b) c.in-Err.ensures c.args.draft.now
 
 pub returns-in-Ok-clause-value : goal.returns-in-Ok-clause-value
 returns-in-Ok-clause-value c =
-    let paren = (word_at c.args.tree.now c.args.i).place in
-    let head = (word_at c.args.tree.now (c.args.i + 1)).place in
-    let scope = scope_of c.args.state.now c.args.inside c.args.bound.now in
-    let found = body_at c.args.tree.now c.in-Ok.found in
-    makes_as c.put_quantified.result c.args.draft.now c.put_quantified.new.draft (body_forall paren head scope c.args.variables.now (here c.args.tree.now c.args.body)) (quantified c.place_at-paren.result c.place_at-head.result scope c.args.variables.now found)
+    let paren = (word_at c.args.context.now.tree.now c.args.i).place in
+    let head = (word_at c.args.context.now.tree.now (c.args.i + 1)).place in
+    let scope = scope_of c.args.context.now.state.now c.args.context.now.inside c.args.bound.now in
+    let found = body_at c.args.context.now.tree.now c.in-Ok.found in
+    makes_as c.put_quantified.result c.args.draft.now c.put_quantified.new.draft (body_forall paren head scope c.args.variables.now (here c.args.context.now.tree.now c.args.body)) (quantified c.place_at-paren.result c.place_at-head.result scope c.args.variables.now found)
     (ap (then_from (λ (b : Body). quantified paren head scope c.args.variables.now b)) (c.in-Ok.ensures c.args.draft.now)
     ∙ ap (λ (p : Place). quantified p head scope c.args.variables.now found c.args.draft.now) (sym c.place_at-paren.ensures)
     ∙ ap (λ (p : Place). quantified c.place_at-paren.result p scope c.args.variables.now found c.args.draft.now) (sym c.place_at-head.ensures))

@@ -8,9 +8,9 @@ use Rattle.smt_terms.proofs.triggers.put_roots.Given as goal
 -- the roots so far and those of the patterns that are left are those of all
 abbrev pub invariant-loop-roots : goal.invariant-loop-roots
 invariant-loop-roots l = record {
-  rest : behind_items l.roots.items (pattern_roots (scope_of l.state l.inside l.bound) (here l.tree l.i) l.draft) ≡ pattern_roots (scope_of l.state l.inside l.fn.bound) (here l.tree l.at) l.fn.draft;
+  rest : behind_items l.roots.items (pattern_roots (scope_of l.context.state.now l.context.inside l.bound) (here l.context.tree.now l.i) l.draft) ≡ pattern_roots (scope_of l.context.state.now l.context.inside l.fn.bound) (here l.context.tree.now l.at) l.fn.draft;
   bound : l.bound ≡ l.fn.bound;
 }
 
 abbrev pub decreases-loop-roots : goal.decreases-loop-roots
-decreases-loop-roots l = weight l.tree (here l.tree l.i)
+decreases-loop-roots l = weight l.context.tree.now (here l.context.tree.now l.i)
