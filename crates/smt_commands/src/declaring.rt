@@ -62,13 +62,9 @@ fn set_print_success(
     ensures answer { Answers result state.new (begun state.old (set_print_success state.old head (here tree.now i))) }
     ensures err { OnErr result (state.new ≡ state.old) }
 {
-    match truth_at(alloc, tree, i, head) {
-        Err(stop) => Err(stop),
-        Ok(prints) => {
-            state.set_prints_success(prints);
-            Ok(Command::Silent)
-        }
-    }
+    let prints = truth_at(alloc, tree, i, head)?;
+    state.set_prints_success(prints);
+    Ok(Command::Silent)
 }
 
 /// An option that is not supported is set.
@@ -92,16 +88,12 @@ pub(crate) fn set_option(
     ensures answer { Answers result state.new (begun state.old (set_option state.old head (here tree.now i))) }
     ensures err { OnErr result (state.new ≡ state.old) }
 {
-    match check_key(alloc, tree, i, head) {
-        Err(stop) => Err(stop),
-        Ok(()) => {
-            let value = behind_one(tree, i);
-            if is_success_key(tree, i) {
-                set_print_success(alloc, state, tree, value, head)
-            } else {
-                set_other(alloc, state, tree, value)
-            }
-        }
+    check_key(alloc, tree, i, head)?;
+    let value = behind_one(tree, i);
+    if is_success_key(tree, i) {
+        set_print_success(alloc, state, tree, value, head)
+    } else {
+        set_other(alloc, state, tree, value)
     }
 }
 
@@ -150,13 +142,9 @@ pub(crate) fn declare_sort(
     ensures answer { Answers result state.new (begun state.old (declare_sort state.old head (here tree.now i))) }
     ensures err { OnErr result (state.new ≡ state.old) }
 {
-    match check_sort(alloc, state, tree, i, head) {
-        Err(stop) => Err(stop),
-        Ok(()) => match state.declare_sort(text_at(tree, i)) {
-            Err(_) => Err(Stop::Memory),
-            Ok(()) => Ok(Command::Silent),
-        },
-    }
+    check_sort(alloc, state, tree, i, head)?;
+    state.declare_sort(text_at(tree, i))?;
+    Ok(Command::Silent)
 }
 
 /// So many parts, and first a new name of a function.
@@ -188,16 +176,10 @@ pub(crate) fn declare_fun(
     ensures answer { Answers result state.new (begun state.old (declare_fun state.old head (here tree.now i))) }
     ensures err { OnErr result (state.new ≡ state.old) }
 {
-    match check_named(alloc, state, tree, i, 3, head) {
-        Err(stop) => Err(stop),
-        Ok(()) => match signature_at(alloc, state, tree, behind_one(tree, i), head) {
-            Err(stop) => Err(stop),
-            Ok(sorts) => match state.declare_function(text_at(tree, i), sorts) {
-                Err(_) => Err(Stop::Memory),
-                Ok(()) => Ok(Command::Silent),
-            },
-        },
-    }
+    check_named(alloc, state, tree, i, 3, head)?;
+    let sorts = signature_at(alloc, state, tree, behind_one(tree, i), head)?;
+    state.declare_function(text_at(tree, i), sorts)?;
+    Ok(Command::Silent)
 }
 
 /// The sorts of a constant must come next.
@@ -210,13 +192,9 @@ fn constant_at(
 ) -> Result<Signature, Stop>
     ensures { Checks result (constant_first state.now missing (here tree.now i)) }
 {
-    match sort_at(alloc, state, tree, i, missing) {
-        Err(stop) => Err(stop),
-        Ok(sort) => {
-            let arguments = Numbers::from_slice(alloc, &[])?;
-            Ok(Signature { arguments, sort })
-        }
-    }
+    let sort = sort_at(alloc, state, tree, i, missing)?;
+    let arguments = Numbers::from_slice(alloc, &[])?;
+    Ok(Signature { arguments, sort })
 }
 
 /// A constant is declared.
@@ -230,14 +208,8 @@ pub(crate) fn declare_const(
     ensures answer { Answers result state.new (begun state.old (declare_const state.old head (here tree.now i))) }
     ensures err { OnErr result (state.new ≡ state.old) }
 {
-    match check_named(alloc, state, tree, i, 2, head) {
-        Err(stop) => Err(stop),
-        Ok(()) => match constant_at(alloc, state, tree, behind_one(tree, i), head) {
-            Err(stop) => Err(stop),
-            Ok(sorts) => match state.declare_function(text_at(tree, i), sorts) {
-                Err(_) => Err(Stop::Memory),
-                Ok(()) => Ok(Command::Silent),
-            },
-        },
-    }
+    check_named(alloc, state, tree, i, 2, head)?;
+    let sorts = constant_at(alloc, state, tree, behind_one(tree, i), head)?;
+    state.declare_function(text_at(tree, i), sorts)?;
+    Ok(Command::Silent)
 }

@@ -80,13 +80,9 @@ pub(crate) fn push_levels(
     ensures answer { Answers result state.new (begun state.old (push_levels state.old head (here tree.now i))) }
     ensures err { OnErr result (state.new ≡ state.old) }
 {
-    match push_count_at(alloc, state, tree, i, head) {
-        Err(stop) => Err(stop),
-        Ok(count) => match state.push(count) {
-            Err(_) => Err(Stop::Memory),
-            Ok(()) => Ok(Command::Push { count }),
-        },
-    }
+    let count = push_count_at(alloc, state, tree, i, head)?;
+    state.push(count)?;
+    Ok(Command::Push { count })
 }
 
 /// Whether so many levels are open.
@@ -132,13 +128,9 @@ pub(crate) fn pop_levels(
     ensures answer { Answers result state.new (begun state.old (pop_levels state.old head (here tree.now i))) }
     ensures err { OnErr result (state.new ≡ state.old) }
 {
-    match pop_count_at(alloc, state, tree, i, head) {
-        Err(stop) => Err(stop),
-        Ok(count) => {
-            state.pop(count);
-            Ok(Command::Pop { count })
-        }
-    }
+    let count = pop_count_at(alloc, state, tree, i, head)?;
+    state.pop(count);
+    Ok(Command::Pop { count })
 }
 
 /// All is as at the start.
@@ -151,13 +143,9 @@ pub(crate) fn reset(
     ensures answer { Answers result state.new (begun state.old (alone Reset (at_start state.old.limits) (here tree.now i))) }
     ensures err { OnErr result (state.new ≡ state.old) }
 {
-    match check_at_most(alloc, tree, i, 0) {
-        Err(stop) => Err(stop),
-        Ok(()) => {
-            state.reset();
-            Ok(Command::Reset)
-        }
-    }
+    check_at_most(alloc, tree, i, 0)?;
+    state.reset();
+    Ok(Command::Reset)
 }
 
 /// No assertions, declarations and levels stand any more.
@@ -170,11 +158,7 @@ pub(crate) fn reset_assertions(
     ensures answer { Answers result state.new (begun state.old (alone ResetAssertions (cleared state.old) (here tree.now i))) }
     ensures err { OnErr result (state.new ≡ state.old) }
 {
-    match check_at_most(alloc, tree, i, 0) {
-        Err(stop) => Err(stop),
-        Ok(()) => {
-            state.clear();
-            Ok(Command::ResetAssertions)
-        }
-    }
+    check_at_most(alloc, tree, i, 0)?;
+    state.clear();
+    Ok(Command::ResetAssertions)
 }

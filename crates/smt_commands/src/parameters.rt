@@ -72,13 +72,9 @@ fn read_parameters(
 ) -> Result<Parameters, Stop>
     ensures { HasParameters result (variables_from state.now 0 (here tree.now i)) }
 {
-    match variables_at(alloc, state, tree, i) {
-        Err(stop) => Err(stop),
-        Ok(variables) => {
-            let parameters = with_sorts(alloc, variables.as_slice())?;
-            Ok(parameters)
-        }
-    }
+    let variables = variables_at(alloc, state, tree, i)?;
+    let parameters = with_sorts(alloc, variables.as_slice())?;
+    Ok(parameters)
 }
 
 /// The parameters that come next, to the end of the list.
@@ -90,10 +86,8 @@ fn parameters_of(
 ) -> Result<Parameters, Stop>
     ensures { HasParameters result (parameters_of state.now (here tree.now i)) }
 {
-    match check_parameters(alloc, tree, i) {
-        Err(stop) => Err(stop),
-        Ok(()) => read_parameters(alloc, state, tree, i),
-    }
+    check_parameters(alloc, tree, i)?;
+    read_parameters(alloc, state, tree, i)
 }
 
 /// A list of parameters must come next.
@@ -106,8 +100,6 @@ pub(crate) fn parameters_at(
 ) -> Result<Parameters, Stop>
     ensures { HasParameters result (parameters_first state.now missing (here tree.now i)) }
 {
-    match check_list(alloc, tree, i, missing) {
-        Err(stop) => Err(stop),
-        Ok(inner) => parameters_of(alloc, state, tree, inner),
-    }
+    let inner = check_list(alloc, tree, i, missing)?;
+    parameters_of(alloc, state, tree, inner)
 }

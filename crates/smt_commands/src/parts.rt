@@ -254,13 +254,9 @@ fn argument_sorts_at(
     ensures { Checks result (argument_sorts state.now (record { paren = word_at tree.now paren; inner = here tree.now inner })) }
 {
     let behind = behind_some(tree, inner, MOST_ARGS);
-    match check_no_more(alloc, tree, behind, Refusal::TooManyArguments) {
-        Err(stop) => Err(stop),
-        Ok(()) => match other_sorts_at(alloc, state, tree, inner, place_at(tree, paren)) {
-            Err(stop) => Err(stop),
-            Ok(sorts) => Ok(Numbers::from_slice(alloc, sorts.as_slice())?),
-        },
-    }
+    check_no_more(alloc, tree, behind, Refusal::TooManyArguments)?;
+    let sorts = other_sorts_at(alloc, state, tree, inner, place_at(tree, paren))?;
+    Ok(Numbers::from_slice(alloc, sorts.as_slice())?)
 }
 
 /// A list of at most `MOST_ARGS` sorts of arguments must come next.
@@ -273,10 +269,8 @@ fn arguments_at(
 ) -> Result<Numbers, Stop>
     ensures { Checks result (arguments_first state.now missing (here tree.now i)) }
 {
-    match check_list(alloc, tree, i, missing) {
-        Err(stop) => Err(stop),
-        Ok(inner) => argument_sorts_at(alloc, state, tree, i, inner),
-    }
+    let inner = check_list(alloc, tree, i, missing)?;
+    argument_sorts_at(alloc, state, tree, i, inner)
 }
 
 /// The sorts of a function must come next: a list of those of its arguments, and its own.

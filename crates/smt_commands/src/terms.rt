@@ -61,10 +61,8 @@ fn put_definition(
     ensures answer { Answers result state.new (Ok (record { command = Silent; state = with_definition name.now definition state.old })) }
     ensures err { OnErr result (state.new ≡ state.old) }
 {
-    match state.define(name, definition) {
-        Err(_) => Err(Stop::Memory),
-        Ok(()) => Ok(Command::Silent),
-    }
+    state.define(name, definition)?;
+    Ok(Command::Silent)
 }
 
 /// What is defined of these parameters, which stand behind the name that a token has.
@@ -117,13 +115,9 @@ pub(crate) fn define_fun(
     ensures answer { Answers result state.new (begun state.old (define_fun state.old head (here tree.now i))) }
     ensures err { OnErr result (state.new ≡ state.old) }
 {
-    match check_named(alloc, state, tree, i, 4, head) {
-        Err(stop) => Err(stop),
-        Ok(()) => match parameters_at(alloc, state, tree, behind_one(tree, i), head) {
-            Err(stop) => Err(stop),
-            Ok(parameters) => define_by(alloc, state, tree, i, parameters, head),
-        },
-    }
+    check_named(alloc, state, tree, i, 4, head)?;
+    let parameters = parameters_at(alloc, state, tree, behind_one(tree, i), head)?;
+    define_by(alloc, state, tree, i, parameters, head)
 }
 
 /// The formula that comes next is asserted.

@@ -5,5 +5,5 @@ use Rattle.smt_terms.specs.Meant.{Listed}
 use Rattle.smt_commands.proofs.Bindings.{has_after}
 use Rattle.smt_commands.proofs.parameters.parameters_at.Goals as goal
 
-pub returns-in-Ok : goal.returns-in-Ok
-returns-in-Ok c = has_after (λ (listed : Listed). parameters_of c.args.state.now listed.inner) c.parameters_of.result (list_first c.args.missing (here c.args.tree.now c.args.i)) _ c.in-Ok.ensures c.parameters_of.ensures
+pub returns : goal.returns
+returns c = has_after (λ (listed : Listed). parameters_of c.args.state.now listed.inner) c.parameters_of.result (list_first c.args.missing (here c.args.tree.now c.args.i)) _ c.in_ok-inner.ensures c.parameters_of.ensures
