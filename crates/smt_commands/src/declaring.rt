@@ -45,10 +45,8 @@ fn truth_of(alloc: Global, tree: &Tree, i: u32) -> Result<bool, Stop>
 fn truth_at(alloc: Global, tree: &Tree, i: u32, missing: Place) -> Result<bool, Stop>
     ensures { Checks result (truth_first missing (here tree.now i)) }
 {
-    match check_symbol(alloc, tree, i, missing) {
-        Err(stop) => Err(stop),
-        Ok(()) => truth_of(alloc, tree, i),
-    }
+    check_symbol(alloc, tree, i, missing)?;
+    truth_of(alloc, tree, i)
 }
 
 /// Whether success is printed is set.
@@ -71,10 +69,8 @@ fn set_print_success(
 fn set_other(alloc: Global, state: &SessionState, tree: &Tree, i: u32) -> Result<Command, Stop>
     ensures { Answers result state.now (begun state.now (set_other state.now (here tree.now i))) }
 {
-    match check_plain_value(alloc, tree, i) {
-        Err(stop) => Err(stop),
-        Ok(()) => Ok(Command::Unsupported),
-    }
+    check_plain_value(alloc, tree, i)?;
+    Ok(Command::Unsupported)
 }
 
 /// An option is set.
@@ -108,10 +104,8 @@ fn check_plain_sort(
     ensures check { ChecksAs result (word_at tree.now i) (plain_sort state.now head (here tree.now i)) }
     ensures new { OnOk result (sort_number state.now (word_at tree.now i).text ≡ None) }
 {
-    match check_new_sort(alloc, state, tree, i, head) {
-        Err(stop) => Err(stop),
-        Ok(()) => check_no_arguments(alloc, tree, behind_one(tree, i), head),
-    }
+    check_new_sort(alloc, state, tree, i, head)?;
+    check_no_arguments(alloc, tree, behind_one(tree, i), head)
 }
 
 /// A new name of a sort, and 0.
@@ -125,10 +119,8 @@ fn check_sort(
     ensures check { ChecksAs result (word_at tree.now i) (sort_form state.now head (here tree.now i)) }
     ensures new { OnOk result (sort_number state.now (word_at tree.now i).text ≡ None) }
 {
-    match check_exactly(alloc, tree, i, 2, head) {
-        Err(stop) => Err(stop),
-        Ok(()) => check_plain_sort(alloc, state, tree, i, head),
-    }
+    check_exactly(alloc, tree, i, 2, head)?;
+    check_plain_sort(alloc, state, tree, i, head)
 }
 
 /// A sort is declared.
@@ -159,10 +151,8 @@ pub(crate) fn check_named(
     ensures check { ChecksAs result (word_at tree.now i) (named_form count state.now head (here tree.now i)) }
     ensures new { OnOk result (head_of state.now (word_at tree.now i).text ≡ Unknown) }
 {
-    match check_exactly(alloc, tree, i, count, head) {
-        Err(stop) => Err(stop),
-        Ok(()) => check_new_function(alloc, state, tree, i, head),
-    }
+    check_exactly(alloc, tree, i, count, head)?;
+    check_new_function(alloc, state, tree, i, head)
 }
 
 /// A function is declared.

@@ -29,10 +29,8 @@ fn levels_asked_at(alloc: Global, tree: &Tree, i: u32, head: Place) -> Result<u1
 fn level_count_at(alloc: Global, tree: &Tree, i: u32, head: Place) -> Result<u128, Stop>
     ensures { Checks result (level_form head (here tree.now i)) }
 {
-    match check_at_most(alloc, tree, i, 1) {
-        Err(stop) => Err(stop),
-        Ok(()) => levels_asked_at(alloc, tree, i, head),
-    }
+    check_at_most(alloc, tree, i, 1)?;
+    levels_asked_at(alloc, tree, i, head)
 }
 
 /// Whether so many levels more may be open.
@@ -56,16 +54,12 @@ fn push_count_at(
     ensures room { IfOk result (λ n. length state.now.levels + n ≤ state.now.limits.levels) }
 {
     let _most = state.limits();
-    match level_count_at(alloc, tree, i, head) {
-        Err(stop) => Err(stop),
-        Ok(count) => {
-            if has_room(state, count) {
-                Ok(count as u32)
-            } else {
-                let place = first_place_at(tree, i, head);
-                Err(Stop::at(alloc, Refusal::LevelsFull, place))
-            }
-        }
+    let count = level_count_at(alloc, tree, i, head)?;
+    if has_room(state, count) {
+        Ok(count as u32)
+    } else {
+        let place = first_place_at(tree, i, head);
+        Err(Stop::at(alloc, Refusal::LevelsFull, place))
     }
 }
 
@@ -104,16 +98,12 @@ fn pop_count_at(
     ensures open { IfOk result (λ n. n ≤ length state.now.levels) }
 {
     let _open = state.levels();
-    match level_count_at(alloc, tree, i, head) {
-        Err(stop) => Err(stop),
-        Ok(count) => {
-            if are_open(state, count) {
-                Ok(count as u32)
-            } else {
-                let place = first_place_at(tree, i, head);
-                Err(Stop::at(alloc, Refusal::PopTooFar, place))
-            }
-        }
+    let count = level_count_at(alloc, tree, i, head)?;
+    if are_open(state, count) {
+        Ok(count as u32)
+    } else {
+        let place = first_place_at(tree, i, head);
+        Err(Stop::at(alloc, Refusal::PopTooFar, place))
     }
 }
 

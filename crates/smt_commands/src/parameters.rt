@@ -25,10 +25,8 @@ pub(crate) struct Parameters {
 fn check_parameters(alloc: Global, tree: &Tree, i: u32) -> Result<(), Stop>
     ensures { Checks result (few_bindings (here tree.now i)) }
 {
-    match check_names(alloc, tree, i) {
-        Err(stop) => Err(stop),
-        Ok(()) => check_few_bindings(alloc, tree, i, MOST_ARGS, Refusal::TooManyArguments),
-    }
+    check_names(alloc, tree, i)?;
+    check_few_bindings(alloc, tree, i, MOST_ARGS, Refusal::TooManyArguments)
 }
 
 /// The sort of what a bound name stands for.

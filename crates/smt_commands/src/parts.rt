@@ -132,16 +132,12 @@ pub(crate) fn check_no_arguments(
 ) -> Result<(), Stop>
     ensures { Checks result (no_arguments missing (here tree.now i)) }
 {
-    match numeral_at(alloc, tree, i, missing) {
-        Err(stop) => Err(stop),
-        Ok(count) => {
-            if count == 0 {
-                Ok(())
-            } else {
-                let place = first_place_at(tree, i, missing);
-                Err(Stop::at(alloc, Refusal::NotInProfile, place))
-            }
-        }
+    let count = numeral_at(alloc, tree, i, missing)?;
+    if count == 0 {
+        Ok(())
+    } else {
+        let place = first_place_at(tree, i, missing);
+        Err(Stop::at(alloc, Refusal::NotInProfile, place))
     }
 }
 

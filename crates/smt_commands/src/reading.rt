@@ -18,10 +18,8 @@ use std::alloc::Global;
 fn check_logic(alloc: Global, tree: &Tree, i: u32, head: Place) -> Result<(), Stop>
     ensures { ChecksAs result (word_at tree.now i) (logic_form head (here tree.now i)) }
 {
-    match check_exactly(alloc, tree, i, 1, head) {
-        Err(stop) => Err(stop),
-        Ok(()) => check_symbol(alloc, tree, i, head),
-    }
+    check_exactly(alloc, tree, i, 1, head)?;
+    check_symbol(alloc, tree, i, head)
 }
 
 /// A logic is named.
@@ -34,40 +32,32 @@ pub(crate) fn set_logic(
 ) -> Result<Command, Stop>
     ensures { Answers result state.now (begun state.now (set_logic state.now head (here tree.now i))) }
 {
-    match check_logic(alloc, tree, i, head) {
-        Err(stop) => Err(stop),
-        Ok(()) => Ok(Command::Silent),
-    }
+    check_logic(alloc, tree, i, head)?;
+    Ok(Command::Silent)
 }
 
 /// One part or two.
 fn check_one_or_two(alloc: Global, tree: &Tree, i: u32, head: Place) -> Result<(), Stop>
     ensures { Checks result (one_or_two head (here tree.now i)) }
 {
-    match check_at_least(alloc, tree, i, 1, head) {
-        Err(stop) => Err(stop),
-        Ok(()) => check_at_most(alloc, tree, i, 2),
-    }
+    check_at_least(alloc, tree, i, 1, head)?;
+    check_at_most(alloc, tree, i, 2)
 }
 
 /// A keyword, and perhaps one part more.
 pub(crate) fn check_key(alloc: Global, tree: &Tree, i: u32, head: Place) -> Result<(), Stop>
     ensures { ChecksAs result (word_at tree.now i) (key_form head (here tree.now i)) }
 {
-    match check_one_or_two(alloc, tree, i, head) {
-        Err(stop) => Err(stop),
-        Ok(()) => check_keyword(alloc, tree, i, head),
-    }
+    check_one_or_two(alloc, tree, i, head)?;
+    check_keyword(alloc, tree, i, head)
 }
 
 /// A keyword, and perhaps its value.
 fn check_info(alloc: Global, tree: &Tree, i: u32, head: Place) -> Result<(), Stop>
     ensures { Checks result (info_form head (here tree.now i)) }
 {
-    match check_key(alloc, tree, i, head) {
-        Err(stop) => Err(stop),
-        Ok(()) => check_plain_value(alloc, tree, behind_one(tree, i)),
-    }
+    check_key(alloc, tree, i, head)?;
+    check_plain_value(alloc, tree, behind_one(tree, i))
 }
 
 /// An information is set.
@@ -80,10 +70,8 @@ pub(crate) fn set_info(
 ) -> Result<Command, Stop>
     ensures { Answers result state.now (begun state.now (set_info state.now head (here tree.now i))) }
 {
-    match check_info(alloc, tree, i, head) {
-        Err(stop) => Err(stop),
-        Ok(()) => Ok(Command::Silent),
-    }
+    check_info(alloc, tree, i, head)?;
+    Ok(Command::Silent)
 }
 
 /// A command without parts that changes nothing.
@@ -96,20 +84,16 @@ pub(crate) fn ask(
 ) -> Result<Command, Stop>
     ensures { Answers result state.now (begun state.now (alone command state.now (here tree.now i))) }
 {
-    match check_at_most(alloc, tree, i, 0) {
-        Err(stop) => Err(stop),
-        Ok(()) => Ok(command),
-    }
+    check_at_most(alloc, tree, i, 0)?;
+    Ok(command)
 }
 
 /// One keyword.
 fn check_asked(alloc: Global, tree: &Tree, i: u32, head: Place) -> Result<(), Stop>
     ensures { ChecksAs result (word_at tree.now i) (asked_form head (here tree.now i)) }
 {
-    match check_exactly(alloc, tree, i, 1, head) {
-        Err(stop) => Err(stop),
-        Ok(()) => check_keyword(alloc, tree, i, head),
-    }
+    check_exactly(alloc, tree, i, 1, head)?;
+    check_keyword(alloc, tree, i, head)
 }
 
 /// The information that a keyword names.
@@ -148,11 +132,7 @@ pub(crate) fn get_info(
 ) -> Result<Command, Stop>
     ensures { Answers result state.now (begun state.now (get_info state.now head (here tree.now i))) }
 {
-    match check_asked(alloc, tree, i, head) {
-        Err(stop) => Err(stop),
-        Ok(()) => {
-            let info = info_named(text_at(tree, i));
-            Ok(Command::GetInfo { info })
-        }
-    }
+    check_asked(alloc, tree, i, head)?;
+    let info = info_named(text_at(tree, i));
+    Ok(Command::GetInfo { info })
 }

@@ -145,13 +145,9 @@ fn assert_term(
         tree,
         inside,
     };
-    match sorted_value_at(&context, &mut draft, &mut bound, i, head, 0) {
-        Err(stop) => Err(stop),
-        Ok(value) => {
-            let formula = draft.finish(value.node());
-            Ok(Command::Assert { formula })
-        }
-    }
+    let value = sorted_value_at(&context, &mut draft, &mut bound, i, head, 0)?;
+    let formula = draft.finish(value.node());
+    Ok(Command::Assert { formula })
 }
 
 /// A formula is asserted.
@@ -165,8 +161,6 @@ pub(crate) fn assert_truth(
     requires { IsSound state.now }
     ensures { Answers result state.now (begun state.now (assert_truth state.now head (here tree.now i))) }
 {
-    match check_exactly(alloc, tree, i, 1, head) {
-        Err(stop) => Err(stop),
-        Ok(()) => assert_term(alloc, state, tree, i, head),
-    }
+    check_exactly(alloc, tree, i, 1, head)?;
+    assert_term(alloc, state, tree, i, head)
 }
