@@ -4,7 +4,7 @@ ghost use Rattle.smt_names.specs.Makes.{Checks};
 ghost use Rattle.smt_names.specs.Names.{head_of, sort_number};
 ghost use Rattle.smt_names.specs.declared.head.Head.TheVariants.{Unknown};
 ghost use Rattle.smt_terms.specs.Checks.{ChecksAs};
-ghost use Rattle.smt_terms.specs.Cursor.{here, word_at};
+ghost use Rattle.smt_terms.specs.Cursor.{trees_from, word_at};
 ghost use Rattle.smt_commands.specs.Answers.{Answers};
 ghost use Rattle.smt_commands.specs.Commands.{begun, constant_first, declare_const, declare_fun, declare_sort, named_form, plain_sort, set_option, set_other, set_print_success, sort_form, truth_first, truth_named};
 
@@ -43,7 +43,7 @@ fn truth_of(alloc: Global, tree: &Tree, i: u32) -> Result<bool, Stop>
 
 /// A truth value must come next.
 fn truth_at(alloc: Global, tree: &Tree, i: u32, missing: Place) -> Result<bool, Stop>
-    ensures { Checks result (truth_first missing (here tree.now i)) }
+    ensures { Checks result (truth_first missing (trees_from tree.now i)) }
 {
     check_symbol(alloc, tree, i, missing)?;
     truth_of(alloc, tree, i)
@@ -57,7 +57,7 @@ fn set_print_success(
     i: u32,
     head: Place,
 ) -> Result<Command, Stop>
-    ensures answer { Answers result state.new (begun state.old (set_print_success state.old head (here tree.now i))) }
+    ensures answer { Answers result state.new (begun state.old (set_print_success state.old head (trees_from tree.now i))) }
     ensures err { OnErr result (state.new ≡ state.old) }
 {
     let prints = truth_at(alloc, tree, i, head)?;
@@ -67,7 +67,7 @@ fn set_print_success(
 
 /// An option that is not supported is set.
 fn set_other(alloc: Global, state: &SessionState, tree: &Tree, i: u32) -> Result<Command, Stop>
-    ensures { Answers result state.now (begun state.now (set_other state.now (here tree.now i))) }
+    ensures { Answers result state.now (begun state.now (set_other state.now (trees_from tree.now i))) }
 {
     check_plain_value(alloc, tree, i)?;
     Ok(Command::Unsupported)
@@ -81,7 +81,7 @@ pub(crate) fn set_option(
     i: u32,
     head: Place,
 ) -> Result<Command, Stop>
-    ensures answer { Answers result state.new (begun state.old (set_option state.old head (here tree.now i))) }
+    ensures answer { Answers result state.new (begun state.old (set_option state.old head (trees_from tree.now i))) }
     ensures err { OnErr result (state.new ≡ state.old) }
 {
     check_key(alloc, tree, i, head)?;
@@ -101,7 +101,7 @@ fn check_plain_sort(
     i: u32,
     head: Place,
 ) -> Result<(), Stop>
-    ensures check { ChecksAs result (word_at tree.now i) (plain_sort state.now head (here tree.now i)) }
+    ensures check { ChecksAs result (word_at tree.now i) (plain_sort state.now head (trees_from tree.now i)) }
     ensures new { OnOk result (sort_number state.now (word_at tree.now i).text ≡ None) }
 {
     check_new_sort(alloc, state, tree, i, head)?;
@@ -116,7 +116,7 @@ fn check_sort(
     i: u32,
     head: Place,
 ) -> Result<(), Stop>
-    ensures check { ChecksAs result (word_at tree.now i) (sort_form state.now head (here tree.now i)) }
+    ensures check { ChecksAs result (word_at tree.now i) (sort_form state.now head (trees_from tree.now i)) }
     ensures new { OnOk result (sort_number state.now (word_at tree.now i).text ≡ None) }
 {
     check_exactly(alloc, tree, i, 2, head)?;
@@ -131,7 +131,7 @@ pub(crate) fn declare_sort(
     i: u32,
     head: Place,
 ) -> Result<Command, Stop>
-    ensures answer { Answers result state.new (begun state.old (declare_sort state.old head (here tree.now i))) }
+    ensures answer { Answers result state.new (begun state.old (declare_sort state.old head (trees_from tree.now i))) }
     ensures err { OnErr result (state.new ≡ state.old) }
 {
     check_sort(alloc, state, tree, i, head)?;
@@ -148,7 +148,7 @@ pub(crate) fn check_named(
     count: u32,
     head: Place,
 ) -> Result<(), Stop>
-    ensures check { ChecksAs result (word_at tree.now i) (named_form count state.now head (here tree.now i)) }
+    ensures check { ChecksAs result (word_at tree.now i) (named_form count state.now head (trees_from tree.now i)) }
     ensures new { OnOk result (head_of state.now (word_at tree.now i).text ≡ Unknown) }
 {
     check_exactly(alloc, tree, i, count, head)?;
@@ -163,7 +163,7 @@ pub(crate) fn declare_fun(
     i: u32,
     head: Place,
 ) -> Result<Command, Stop>
-    ensures answer { Answers result state.new (begun state.old (declare_fun state.old head (here tree.now i))) }
+    ensures answer { Answers result state.new (begun state.old (declare_fun state.old head (trees_from tree.now i))) }
     ensures err { OnErr result (state.new ≡ state.old) }
 {
     check_named(alloc, state, tree, i, 3, head)?;
@@ -180,7 +180,7 @@ fn constant_at(
     i: u32,
     missing: Place,
 ) -> Result<Signature, Stop>
-    ensures { Checks result (constant_first state.now missing (here tree.now i)) }
+    ensures { Checks result (constant_first state.now missing (trees_from tree.now i)) }
 {
     let sort = sort_at(alloc, state, tree, i, missing)?;
     let arguments = Numbers::from_slice(alloc, &[])?;
@@ -195,7 +195,7 @@ pub(crate) fn declare_const(
     i: u32,
     head: Place,
 ) -> Result<Command, Stop>
-    ensures answer { Answers result state.new (begun state.old (declare_const state.old head (here tree.now i))) }
+    ensures answer { Answers result state.new (begun state.old (declare_const state.old head (trees_from tree.now i))) }
     ensures err { OnErr result (state.new ≡ state.old) }
 {
     check_named(alloc, state, tree, i, 2, head)?;

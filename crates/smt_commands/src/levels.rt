@@ -2,7 +2,7 @@
 ghost use Rattle.std.specs.Prelude.{◌≡◌, ◌+◌, ◌≤◌, nat_le, length, IfOk, OnErr};
 ghost use Rattle.smt_names.specs.Makes.{Checks};
 ghost use Rattle.smt_names.specs.Names.{at_start, cleared};
-ghost use Rattle.smt_terms.specs.Cursor.{here};
+ghost use Rattle.smt_terms.specs.Cursor.{trees_from};
 ghost use Rattle.smt_commands.specs.declared.command.Command.TheVariants.{Reset, ResetAssertions};
 ghost use Rattle.smt_commands.specs.Answers.{Answers};
 ghost use Rattle.smt_commands.specs.Commands.{alone, begun, level_form, levels_asked, pop_form, pop_levels, push_form, push_levels};
@@ -16,7 +16,7 @@ use std::alloc::Global;
 
 /// How many levels are asked for: the number that comes next, or 1.
 fn levels_asked_at(alloc: Global, tree: &Tree, i: u32, head: Place) -> Result<u128, Stop>
-    ensures { Checks result (levels_asked head (here tree.now i)) }
+    ensures { Checks result (levels_asked head (trees_from tree.now i)) }
 {
     match look(tree, i) {
         Seen::End => Ok(1),
@@ -27,7 +27,7 @@ fn levels_asked_at(alloc: Global, tree: &Tree, i: u32, head: Place) -> Result<u1
 
 /// How many levels are asked for, in at most one part.
 fn level_count_at(alloc: Global, tree: &Tree, i: u32, head: Place) -> Result<u128, Stop>
-    ensures { Checks result (level_form head (here tree.now i)) }
+    ensures { Checks result (level_form head (trees_from tree.now i)) }
 {
     check_at_most(alloc, tree, i, 1)?;
     levels_asked_at(alloc, tree, i, head)
@@ -50,7 +50,7 @@ fn push_count_at(
     i: u32,
     head: Place,
 ) -> Result<u32, Stop>
-    ensures form { Checks result (push_form state.now head (here tree.now i)) }
+    ensures form { Checks result (push_form state.now head (trees_from tree.now i)) }
     ensures room { IfOk result (λ n. length state.now.levels + n ≤ state.now.limits.levels) }
 {
     let _most = state.limits();
@@ -71,7 +71,7 @@ pub(crate) fn push_levels(
     i: u32,
     head: Place,
 ) -> Result<Command, Stop>
-    ensures answer { Answers result state.new (begun state.old (push_levels state.old head (here tree.now i))) }
+    ensures answer { Answers result state.new (begun state.old (push_levels state.old head (trees_from tree.now i))) }
     ensures err { OnErr result (state.new ≡ state.old) }
 {
     let count = push_count_at(alloc, state, tree, i, head)?;
@@ -94,7 +94,7 @@ fn pop_count_at(
     i: u32,
     head: Place,
 ) -> Result<u32, Stop>
-    ensures form { Checks result (pop_form state.now head (here tree.now i)) }
+    ensures form { Checks result (pop_form state.now head (trees_from tree.now i)) }
     ensures open { IfOk result (λ n. n ≤ length state.now.levels) }
 {
     let _open = state.levels();
@@ -115,7 +115,7 @@ pub(crate) fn pop_levels(
     i: u32,
     head: Place,
 ) -> Result<Command, Stop>
-    ensures answer { Answers result state.new (begun state.old (pop_levels state.old head (here tree.now i))) }
+    ensures answer { Answers result state.new (begun state.old (pop_levels state.old head (trees_from tree.now i))) }
     ensures err { OnErr result (state.new ≡ state.old) }
 {
     let count = pop_count_at(alloc, state, tree, i, head)?;
@@ -130,7 +130,7 @@ pub(crate) fn reset(
     tree: &Tree,
     i: u32,
 ) -> Result<Command, Stop>
-    ensures answer { Answers result state.new (begun state.old (alone Reset (at_start state.old.limits) (here tree.now i))) }
+    ensures answer { Answers result state.new (begun state.old (alone Reset (at_start state.old.limits) (trees_from tree.now i))) }
     ensures err { OnErr result (state.new ≡ state.old) }
 {
     check_at_most(alloc, tree, i, 0)?;
@@ -145,7 +145,7 @@ pub(crate) fn reset_assertions(
     tree: &Tree,
     i: u32,
 ) -> Result<Command, Stop>
-    ensures answer { Answers result state.new (begun state.old (alone ResetAssertions (cleared state.old) (here tree.now i))) }
+    ensures answer { Answers result state.new (begun state.old (alone ResetAssertions (cleared state.old) (trees_from tree.now i))) }
     ensures err { OnErr result (state.new ≡ state.old) }
 {
     check_at_most(alloc, tree, i, 0)?;

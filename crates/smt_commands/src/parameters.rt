@@ -3,7 +3,7 @@ ghost use Rattle.std.specs.Prelude.{◌≡◌, IfOk};
 ghost use Rattle.smt_names.specs.Makes.{Checks};
 ghost use Rattle.smt_terms.specs.Terms.{variables_from};
 ghost use Rattle.smt_terms.specs.Scopes.{sort_of_stands, sorts_of};
-ghost use Rattle.smt_terms.specs.Cursor.{here};
+ghost use Rattle.smt_terms.specs.Cursor.{trees_from};
 ghost use Rattle.smt_commands.specs.Commands.{few_bindings, parameters_first, parameters_of};
 ghost use Rattle.smt_commands.specs.Parameters.{HasParameters};
 
@@ -23,7 +23,7 @@ pub(crate) struct Parameters {
 
 /// At most `MOST_ARGS` bindings come next, to the end of the list.
 fn check_parameters(alloc: Global, tree: &Tree, i: u32) -> Result<(), Stop>
-    ensures { Checks result (few_bindings (here tree.now i)) }
+    ensures { Checks result (few_bindings (trees_from tree.now i)) }
 {
     check_names(alloc, tree, i)?;
     check_few_bindings(alloc, tree, i, MOST_ARGS, Refusal::TooManyArguments)
@@ -68,7 +68,7 @@ fn read_parameters(
     tree: &Tree,
     i: u32,
 ) -> Result<Parameters, Stop>
-    ensures { HasParameters result (variables_from state.now 0 (here tree.now i)) }
+    ensures { HasParameters result (variables_from state.now 0 (trees_from tree.now i)) }
 {
     let variables = variables_at(alloc, state, tree, i)?;
     let parameters = with_sorts(alloc, variables.as_slice())?;
@@ -82,7 +82,7 @@ fn parameters_of(
     tree: &Tree,
     i: u32,
 ) -> Result<Parameters, Stop>
-    ensures { HasParameters result (parameters_of state.now (here tree.now i)) }
+    ensures { HasParameters result (parameters_of state.now (trees_from tree.now i)) }
 {
     check_parameters(alloc, tree, i)?;
     read_parameters(alloc, state, tree, i)
@@ -96,7 +96,7 @@ pub(crate) fn parameters_at(
     i: u32,
     missing: Place,
 ) -> Result<Parameters, Stop>
-    ensures { HasParameters result (parameters_first state.now missing (here tree.now i)) }
+    ensures { HasParameters result (parameters_first state.now missing (trees_from tree.now i)) }
 {
     let inner = check_list(alloc, tree, i, missing)?;
     parameters_of(alloc, state, tree, inner)

@@ -5,8 +5,8 @@ ghost use Rattle.smt_names.specs.Value.{sort_of};
 ghost use Rattle.smt_names.specs.Names.{head_of, with_definition};
 ghost use Rattle.smt_names.specs.declared.head.Head.TheVariants.{Unknown};
 ghost use Rattle.smt_commands.specs.declared.command.Command.TheVariants.{Silent};
-ghost use Rattle.smt_terms.specs.Cursor.{here, word_at};
-ghost use Rattle.smt_terms.specs.Meant.{from};
+ghost use Rattle.smt_terms.specs.Cursor.{trees_from, word_at};
+ghost use Rattle.smt_terms.specs.Reading.{from};
 ghost use Rattle.smt_terms.specs.Machine.{scope_of};
 ghost use Rattle.smt_commands.specs.Answers.{Answers};
 ghost use Rattle.smt_commands.specs.Commands.{assert_truth, asserted_term, begun, define_fun, defined_by, sorted_value};
@@ -40,7 +40,7 @@ fn sorted_value_at(
     head: Place,
     sort: u32,
 ) -> Result<Value, Stop>
-    ensures { Makes result draft.old draft.new (sorted_value head (scope_of context.now.state.now context.now.inside bound.old) sort (here context.now.tree.now i)) }
+    ensures { Makes result draft.old draft.new (sorted_value head (scope_of context.now.state.now context.now.inside bound.old) sort (trees_from context.now.tree.now i)) }
 {
     let value = elaborate_term(context, draft, bound, i, head)?;
     if has_sort(value, sort) {
@@ -76,7 +76,7 @@ fn define_by(
 ) -> Result<Command, Stop>
     requires sorts { parameters.sorts ≡ sorts_of parameters.bound }
     requires new { head_of state.old (word_at tree.now name).text ≡ Unknown }
-    ensures answer { Answers result state.new (begun state.old (defined_by state.old head (word_at tree.now name).text parameters.bound (from 2 (here tree.now name)) (from 3 (here tree.now name)))) }
+    ensures answer { Answers result state.new (begun state.old (defined_by state.old head (word_at tree.now name).text parameters.bound (from 2 (trees_from tree.now name)) (from 3 (trees_from tree.now name)))) }
     ensures err { OnErr result (state.new ≡ state.old) }
 {
     let inside = Inside {
@@ -112,7 +112,7 @@ pub(crate) fn define_fun(
     i: u32,
     head: Place,
 ) -> Result<Command, Stop>
-    ensures answer { Answers result state.new (begun state.old (define_fun state.old head (here tree.now i))) }
+    ensures answer { Answers result state.new (begun state.old (define_fun state.old head (trees_from tree.now i))) }
     ensures err { OnErr result (state.new ≡ state.old) }
 {
     check_named(alloc, state, tree, i, 4, head)?;
@@ -129,7 +129,7 @@ fn assert_term(
     head: Place,
 ) -> Result<Command, Stop>
     requires { IsSound state.now }
-    ensures { Answers result state.now (begun state.now (asserted_term state.now head (here tree.now i))) }
+    ensures { Answers result state.now (begun state.now (asserted_term state.now head (trees_from tree.now i))) }
 {
     formula_law();
     let limits = state.limits();
@@ -159,7 +159,7 @@ pub(crate) fn assert_truth(
     head: Place,
 ) -> Result<Command, Stop>
     requires { IsSound state.now }
-    ensures { Answers result state.now (begun state.now (assert_truth state.now head (here tree.now i))) }
+    ensures { Answers result state.now (begun state.now (assert_truth state.now head (trees_from tree.now i))) }
 {
     check_exactly(alloc, tree, i, 1, head)?;
     assert_term(alloc, state, tree, i, head)

@@ -3,7 +3,7 @@ ghost use Rattle.std.specs.Prelude.{◌≡◌, OnOk};
 ghost use Rattle.smt_text.specs.declared.token.Place.{Place};
 ghost use Rattle.smt_names.specs.Makes.{Makes};
 ghost use Rattle.smt_terms.specs.Terms.{value};
-ghost use Rattle.smt_terms.specs.Cursor.{word_at, here, SeesList};
+ghost use Rattle.smt_terms.specs.Cursor.{word_at, trees_from, SeesList};
 ghost use Rattle.smt_terms.specs.Machine.{scope_of, Advances, IsUniversalAt};
 
 use crate::context::Context;
@@ -72,7 +72,7 @@ pub fn elaborate_term(
     at: u32,
     missing: Place,
 ) -> Result<Value, Stop>
-    ensures value { Makes result draft.old draft.new (value missing (scope_of context.now.state.now context.now.inside bound.old) (here context.now.tree.now at)) }
+    ensures value { Makes result draft.old draft.new (value missing (scope_of context.now.state.now context.now.inside bound.old) (trees_from context.now.tree.now at)) }
     ensures bound { OnOk result (bound.new ≡ bound.old) }
 {
     let mut frames = Vec::new(context.alloc);

@@ -4,7 +4,7 @@ ghost use Rattle.smt_names.specs.Makes.{Makes};
 ghost use Rattle.smt_terms.specs.Terms.{forall_value, checked_forall, bound_forall, body_forall, quantified, some_trigger};
 ghost use Rattle.smt_terms.specs.Triggers.{forall_of, triggered, quantified_inside};
 ghost use Rattle.smt_terms.specs.Bodies.{attributes_at, body_at};
-ghost use Rattle.smt_terms.specs.Cursor.{word_at, here};
+ghost use Rattle.smt_terms.specs.Cursor.{word_at, trees_from};
 ghost use Rattle.smt_terms.specs.Machine.{scope_of};
 
 use crate::bodies::{Body, check_few_bindings, read_body, variables_at};
@@ -85,7 +85,7 @@ fn put_inside(
     body: &Body,
 ) -> Result<Value, Stop>
     requires { context.now.inside.in_forall ≡ true }
-    ensures value { Makes result draft.old draft.new (quantified_inside heading.paren heading.head (scope_of context.now.state.now context.now.inside bound.old) variables.now (here context.now.tree.now body.now.at) (attributes_at context.now.tree.now body.now.patterns.items)) }
+    ensures value { Makes result draft.old draft.new (quantified_inside heading.paren heading.head (scope_of context.now.state.now context.now.inside bound.old) variables.now (trees_from context.now.tree.now body.now.at) (attributes_at context.now.tree.now body.now.patterns.items)) }
     ensures bound { OnOk result (bound.new ≡ bound.old) }
 {
     let head = heading.head;
@@ -134,7 +134,7 @@ fn put_body(
     variables: &[Bound],
     body: u32,
 ) -> Result<Value, Stop>
-    ensures value { Makes result draft.old draft.new (body_forall (word_at context.now.tree.now i).place (word_at context.now.tree.now (i + 1)).place (scope_of context.now.state.now context.now.inside bound.old) variables.now (here context.now.tree.now body)) }
+    ensures value { Makes result draft.old draft.new (body_forall (word_at context.now.tree.now i).place (word_at context.now.tree.now (i + 1)).place (scope_of context.now.state.now context.now.inside bound.old) variables.now (trees_from context.now.tree.now body)) }
     ensures bound { OnOk result (bound.new ≡ bound.old) }
 {
     if i == u32::MAX {
@@ -159,7 +159,7 @@ fn put_bound_forall(
     bindings: u32,
     body: u32,
 ) -> Result<Value, Stop>
-    ensures value { Makes result draft.old draft.new (bound_forall (word_at context.now.tree.now i).place (word_at context.now.tree.now (i + 1)).place (scope_of context.now.state.now context.now.inside bound.old) (here context.now.tree.now bindings) (here context.now.tree.now body)) }
+    ensures value { Makes result draft.old draft.new (bound_forall (word_at context.now.tree.now i).place (word_at context.now.tree.now (i + 1)).place (scope_of context.now.state.now context.now.inside bound.old) (trees_from context.now.tree.now bindings) (trees_from context.now.tree.now body)) }
     ensures bound { OnOk result (bound.new ≡ bound.old) }
 {
     let Context { alloc, state, tree, .. } = *context;
@@ -185,7 +185,7 @@ fn put_checked_forall(
 ) -> Result<Value, Stop>
     requires parts { parts ≡ i + 2 }
     requires fits { i + 3 < 2 ^ 32 }
-    ensures value { Makes result draft.old draft.new (checked_forall (word_at context.now.tree.now i).place (word_at context.now.tree.now (i + 1)).place (here context.now.tree.now parts) (scope_of context.now.state.now context.now.inside bound.old)) }
+    ensures value { Makes result draft.old draft.new (checked_forall (word_at context.now.tree.now i).place (word_at context.now.tree.now (i + 1)).place (trees_from context.now.tree.now parts) (scope_of context.now.state.now context.now.inside bound.old)) }
     ensures bound { OnOk result (bound.new ≡ bound.old) }
 {
     let Context { alloc, tree, .. } = *context;
@@ -213,7 +213,7 @@ pub(crate) fn put_forall(
     bound: &mut BoundNames,
     i: u32,
 ) -> Result<Value, Stop>
-    ensures value { Makes result draft.old draft.new (forall_value (word_at context.now.tree.now i).place (word_at context.now.tree.now (i + 1)).place (here context.now.tree.now (i + 2)) (scope_of context.now.state.now context.now.inside bound.old)) }
+    ensures value { Makes result draft.old draft.new (forall_value (word_at context.now.tree.now i).place (word_at context.now.tree.now (i + 1)).place (trees_from context.now.tree.now (i + 2)) (scope_of context.now.state.now context.now.inside bound.old)) }
     ensures bound { OnOk result (bound.new ≡ bound.old) }
 {
     if i > u32::MAX - 3 {

@@ -3,7 +3,7 @@ ghost use Rattle.std.specs.Prelude.{◌≡◌, ◌<◌, ◌+◌, true, length};
 ghost use Rattle.smt_names.specs.Names.{State, bound_as};
 ghost use Rattle.smt_terms.specs.declared.inside.Inside.{Inside};
 ghost use Rattle.smt_terms.specs.Terms.{form_of, form_value, let_value, annotated_value, forall_value, unbound_value, list_value};
-ghost use Rattle.smt_terms.specs.Cursor.{word_at, here, SeesList, SeesToken};
+ghost use Rattle.smt_terms.specs.Cursor.{word_at, trees_from, SeesList, SeesToken};
 ghost use Rattle.smt_terms.specs.Machine.{IsHeadOf, Opens, OpensForall, work_in};
 
 use crate::checks::{check_attributes, check_bindings, check_exactly};
@@ -48,7 +48,7 @@ fn open_let(
     after: u32,
 ) -> Result<Opened, Stop>
     requires { SeesToken tree.now (i + 1) }
-    ensures { (state : State) (inside : Inside) → Opens tree.now state inside frames.old.items bound.old frames.new.items bound.new i after (3 + work_in tree.now frames.old.items (i + 2) after) (let_value (word_at tree.now (i + 1)).place (here tree.now (i + 2))) result }
+    ensures { (state : State) (inside : Inside) → Opens tree.now state inside frames.old.items bound.old frames.new.items bound.new i after (3 + work_in tree.now frames.old.items (i + 2) after) (let_value (word_at tree.now (i + 1)).place (trees_from tree.now (i + 2))) result }
 {
     let _len = tree.len();
     let head = place_at(tree, i + 1);
@@ -83,7 +83,7 @@ fn open_annotated(
     after: u32,
 ) -> Result<Opened, Stop>
     requires { SeesToken tree.now (i + 1) }
-    ensures { (state : State) (inside : Inside) → Opens tree.now state inside frames.old.items bound.now frames.new.items bound.now i after (3 + work_in tree.now frames.old.items (i + 2) after) (annotated_value (word_at tree.now (i + 1)).place (here tree.now (i + 2))) result }
+    ensures { (state : State) (inside : Inside) → Opens tree.now state inside frames.old.items bound.now frames.new.items bound.now i after (3 + work_in tree.now frames.old.items (i + 2) after) (annotated_value (word_at tree.now (i + 1)).place (trees_from tree.now (i + 2))) result }
 {
     let _len = tree.len();
     let head = place_at(tree, i + 1);
@@ -124,7 +124,7 @@ fn open_application(
     after: u32,
 ) -> Result<Opened, Stop>
     requires { SeesToken tree.now (i + 1) }
-    ensures { (inside : Inside) → Opens tree.now state.now inside frames.old.items bound.now frames.new.items bound.now i after (3 + work_in tree.now frames.old.items (i + 2) after) (form_value (word_at tree.now i).place (word_at tree.now (i + 1)) (here tree.now (i + 2)) Form.Application) result }
+    ensures { (inside : Inside) → Opens tree.now state.now inside frames.old.items bound.now frames.new.items bound.now i after (3 + work_in tree.now frames.old.items (i + 2) after) (form_value (word_at tree.now i).place (word_at tree.now (i + 1)) (trees_from tree.now (i + 2)) Form.Application) result }
 {
     let _len = tree.len();
     let head = place_at(tree, i + 1);
@@ -171,7 +171,7 @@ fn open_form(
     after: u32,
 ) -> Result<Opened, Stop>
     requires { SeesToken context.now.tree.now (i + 1) }
-    ensures { Opens context.now.tree.now context.now.state.now context.now.inside frames.old.items bound.old frames.new.items bound.new i after (3 + work_in context.now.tree.now frames.old.items (i + 2) after) (form_value (word_at context.now.tree.now i).place (word_at context.now.tree.now (i + 1)) (here context.now.tree.now (i + 2)) (form_of (word_at context.now.tree.now (i + 1)).text)) result }
+    ensures { Opens context.now.tree.now context.now.state.now context.now.inside frames.old.items bound.old frames.new.items bound.new i after (3 + work_in context.now.tree.now frames.old.items (i + 2) after) (form_value (word_at context.now.tree.now i).place (word_at context.now.tree.now (i + 1)) (trees_from context.now.tree.now (i + 2)) (form_of (word_at context.now.tree.now (i + 1)).text)) result }
 {
     let Context { alloc, state, tree, inside } = *context;
     let _len = tree.len();
@@ -194,7 +194,7 @@ pub(crate) fn open_list(
     after: u32,
 ) -> Result<Opened, Stop>
     requires { SeesList context.now.tree.now i after }
-    ensures { Opens context.now.tree.now context.now.state.now context.now.inside frames.old.items bound.old frames.new.items bound.new i after (2 + work_in context.now.tree.now frames.old.items (i + 1) after) (list_value (word_at context.now.tree.now i) (here context.now.tree.now (i + 1))) result }
+    ensures { Opens context.now.tree.now context.now.state.now context.now.inside frames.old.items bound.old frames.new.items bound.new i after (2 + work_in context.now.tree.now frames.old.items (i + 1) after) (list_value (word_at context.now.tree.now i) (trees_from context.now.tree.now (i + 1))) result }
 {
     let Context { alloc, tree, .. } = *context;
     let _len = tree.len();

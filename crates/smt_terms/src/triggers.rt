@@ -4,7 +4,7 @@ ghost use Rattle.smt_names.specs.Makes.{Makes, MakesItems};
 ghost use Rattle.smt_names.specs.Names.{is_keyword as keyword};
 ghost use Rattle.smt_terms.specs.Terms.{value, pattern_root, pattern_roots, trigger as trigger_so, triggers as triggers_so};
 ghost use Rattle.smt_terms.specs.Triggers.{MaySeeTree, HasNumber, HasPatterns, listed_trigger};
-ghost use Rattle.smt_terms.specs.Cursor.{word_at, here};
+ghost use Rattle.smt_terms.specs.Cursor.{word_at, trees_from};
 ghost use Rattle.smt_terms.specs.Bodies.{attribute_at, attributes_at};
 ghost use Rattle.smt_terms.specs.Machine.{scope_of};
 
@@ -41,7 +41,7 @@ fn put_root(
     at: u32,
 ) -> Result<u32, Stop>
     requires { context.now.inside.in_forall ≡ true }
-    ensures value { Makes result draft.old draft.new (pattern_root (word_at context.now.tree.now at).place (value (word_at context.now.tree.now at).place (scope_of context.now.state.now context.now.inside bound.old) (here context.now.tree.now at))) }
+    ensures value { Makes result draft.old draft.new (pattern_root (word_at context.now.tree.now at).place (value (word_at context.now.tree.now at).place (scope_of context.now.state.now context.now.inside bound.old) (trees_from context.now.tree.now at))) }
     ensures bound { OnOk result (bound.new ≡ bound.old) }
 {
     let place = place_at(context.tree, at);
@@ -57,7 +57,7 @@ fn put_roots(
     at: u32,
 ) -> Result<Vec<u32>, Stop>
     requires { context.now.inside.in_forall ≡ true }
-    ensures value { MakesItems result draft.old draft.new (pattern_roots (scope_of context.now.state.now context.now.inside bound.old) (here context.now.tree.now at)) }
+    ensures value { MakesItems result draft.old draft.new (pattern_roots (scope_of context.now.state.now context.now.inside bound.old) (trees_from context.now.tree.now at)) }
     ensures bound { OnOk result (bound.new ≡ bound.old) }
 {
     let mut roots = Vec::new(context.alloc);
@@ -86,7 +86,7 @@ fn put_listed(
     at: u32,
 ) -> Result<Trigger, Stop>
     requires { context.now.inside.in_forall ≡ true }
-    ensures value { Makes result draft.old draft.new (listed_trigger (scope_of context.now.state.now context.now.inside bound.old) variables.now paren (here context.now.tree.now at)) }
+    ensures value { Makes result draft.old draft.new (listed_trigger (scope_of context.now.state.now context.now.inside bound.old) variables.now paren (trees_from context.now.tree.now at)) }
     ensures bound { OnOk result (bound.new ≡ bound.old) }
 {
     let roots = put_roots(context, draft, bound, at)?;

@@ -4,8 +4,8 @@ ghost use Rattle.smt_text.specs.declared.token.Place.{Place};
 ghost use Rattle.formula_draft.specs.Draft.{Draft};
 ghost use Rattle.smt_names.specs.Makes.{Makes};
 ghost use Rattle.smt_terms.specs.Terms.{list_value};
-ghost use Rattle.smt_terms.specs.Cursor.{word_at, here, SeesList, SeesToken};
-ghost use Rattle.smt_terms.specs.Meant.{End};
+ghost use Rattle.smt_terms.specs.Cursor.{word_at, trees_from, SeesList, SeesToken};
+ghost use Rattle.smt_terms.specs.Reading.{End};
 ghost use Rattle.smt_terms.specs.declared.inside.Inside.{Inside};
 ghost use Rattle.smt_names.specs.declared.bound.Bound.{Bound};
 ghost use Rattle.smt_terms.specs.Machine.{Steps, Walks, scope_of, goes_by, step_of, step_for};
@@ -82,7 +82,7 @@ fn close(
     bound: &mut BoundNames,
     i: u32,
 ) -> Result<Step, Stop>
-    requires { here context.now.tree.now i ≡ End }
+    requires { trees_from context.now.tree.now i ≡ End }
     ensures { Steps context.now.tree.now context.now.state.now context.now.inside missing frames.old.items bound.old frames.new.items bound.new draft.old draft.new i result }
 {
     let Context { alloc, state, tree, .. } = *context;

@@ -1,8 +1,8 @@
 use Rattle.std.proofs.Common.{◌+◌, sym, ap}
 use Rattle.smt_text.specs.declared.token.Place.{Place}
-use Rattle.smt_terms.specs.Meant.{attributes_of}
+use Rattle.smt_terms.specs.Reading.{attributes_of}
 use Rattle.smt_terms.specs.Terms.{annotated_value, value}
-use Rattle.smt_terms.specs.Cursor.{word_at, here}
+use Rattle.smt_terms.specs.Cursor.{word_at, trees_from}
 use Rattle.smt_terms.specs.Machine.{scope_of}
 use Rattle.smt_terms.proofs.CheckLemmas.{refuses_first, refuses_as}
 use Rattle.smt_terms.proofs.Openings.{opens_annotated}
@@ -10,7 +10,7 @@ use Rattle.smt_terms.proofs.opening.open_annotated.Goals as goal
 
 pub returns-in-Err : goal.returns-in-Err
 returns-in-Err c state inside =
-    let parts = here c.args.tree.now (c.args.i + 2) in
+    let parts = trees_from c.args.tree.now (c.args.i + 2) in
     let scope = scope_of state inside c.args.bound.now in
     refuses_as c.in-Err.stop (annotated_value c.place_at-head.result parts scope) (annotated_value (word_at c.args.tree.now (c.args.i + 1)).place parts scope)
     (λ draft. ap (λ (p : Place). annotated_value p parts scope draft) (sym c.place_at-head.ensures))

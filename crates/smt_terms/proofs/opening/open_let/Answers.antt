@@ -1,7 +1,7 @@
 use Rattle.std.proofs.Common.{◌+◌, sym, ap}
 use Rattle.smt_terms.proofs.opening.open_let.Goals as goal
 use Rattle.smt_text.specs.declared.token.Place.{Place}
-use Rattle.smt_terms.specs.Cursor.{word_at, here}
+use Rattle.smt_terms.specs.Cursor.{word_at, trees_from}
 use Rattle.smt_terms.specs.Machine.{scope_of}
 use Rattle.smt_terms.specs.Terms.{let_value}
 use Rattle.smt_terms.proofs.CheckLemmas.{refuses_as}
@@ -9,7 +9,7 @@ use Rattle.smt_terms.proofs.Openings.{let_refused_number, let_refused_bindings, 
 
 pub returns-in-Err : goal.returns-in-Err
 returns-in-Err c state inside =
-    let parts = here c.args.tree.now (c.args.i + 2) in
+    let parts = trees_from c.args.tree.now (c.args.i + 2) in
     let scope = scope_of state inside c.args.bound.now in
     refuses_as c.in-Err.stop (let_value c.place_at-head.result parts scope) (let_value (word_at c.args.tree.now (c.args.i + 1)).place parts scope)
     (λ draft. ap (λ (p : Place). let_value p parts scope draft) (sym c.place_at-head.ensures))
@@ -17,7 +17,7 @@ returns-in-Err c state inside =
 
 pub returns-in-Err-check_bindings : goal.returns-in-Err-check_bindings
 returns-in-Err-check_bindings c state inside =
-    let parts = here c.args.tree.now (c.args.i + 2) in
+    let parts = trees_from c.args.tree.now (c.args.i + 2) in
     let scope = scope_of state inside c.args.bound.now in
     refuses_as c.in-Err-check_bindings.stop (let_value c.place_at-head.result parts scope) (let_value (word_at c.args.tree.now (c.args.i + 1)).place parts scope)
     (λ draft. ap (λ (p : Place). let_value p parts scope draft) (sym c.place_at-head.ensures))
