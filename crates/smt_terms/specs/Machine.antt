@@ -296,7 +296,7 @@ OpensForall words inside i (Ok (opened.At j)) = ⊥
 OpensForall words inside i (Ok opened.Universal) = (inside.in_forall ≡ false) × (inside.in_definition ≡ false)
 OpensForall words inside i (Err stop) = (state : State) (bound : List Bound) (paren : Place) (draft : Draft) →
     Refuses stop (forall_value paren (word_at words (i + 1)).place (trees_from words (i + 2))
-        (scope_of state inside bound)
+    (scope_of state inside bound)
     draft)
 
 -- what a name that is not bound stands for, where it stands for something

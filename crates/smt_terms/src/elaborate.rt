@@ -59,7 +59,9 @@ fn advance(
     match walk(context, draft, missing, frames, bound, i) {
         Err(stop) => Err(stop),
         Ok(Walked::Whole(value)) => Ok(Next::Whole(value)),
-        Ok(Walked::Universal { at, after }) => pass_forall(context, draft, frames, bound, at, after),
+        Ok(Walked::Universal { at, after }) => pass_forall(
+            context, draft, frames, bound, at, after,
+        ),
     }
 }
 

@@ -145,7 +145,14 @@ fn put_body(
         Ok(found) => {
             let paren = place_at(context.tree, i);
             let head = place_at(context.tree, i + 1);
-            put_quantified(context, draft, bound, Heading { paren, head }, variables, &found)
+            put_quantified(
+                context,
+                draft,
+                bound,
+                Heading { paren, head },
+                variables,
+                &found,
+            )
         }
     }
 }
@@ -162,7 +169,12 @@ fn put_bound_forall(
     ensures value { Makes result draft.old draft.new (bound_forall (word_at context.now.tree.now i).place (word_at context.now.tree.now (i + 1)).place (scope_of context.now.state.now context.now.inside bound.old) (trees_from context.now.tree.now bindings) (trees_from context.now.tree.now body)) }
     ensures bound { OnOk result (bound.new ≡ bound.old) }
 {
-    let Context { alloc, state, tree, .. } = *context;
+    let Context {
+        alloc,
+        state,
+        tree,
+        ..
+    } = *context;
     match check_few_bindings(alloc, tree, bindings, 32, Refusal::TooManyVariables) {
         Err(stop) => Err(stop),
         Ok(()) => match variables_at(alloc, state, tree, bindings) {

@@ -173,7 +173,12 @@ fn open_form(
     requires { SeesToken context.now.tree.now (i + 1) }
     ensures { Opens context.now.tree.now context.now.state.now context.now.inside frames.old.items bound.old frames.new.items bound.new i after (3 + work_in context.now.tree.now frames.old.items (i + 2) after) (form_value (word_at context.now.tree.now i).place (word_at context.now.tree.now (i + 1)) (trees_from context.now.tree.now (i + 2)) (form_of (word_at context.now.tree.now (i + 1)).text)) result }
 {
-    let Context { alloc, state, tree, inside } = *context;
+    let Context {
+        alloc,
+        state,
+        tree,
+        inside,
+    } = *context;
     let _len = tree.len();
     let head = place_at(tree, i + 1);
     match form_of_head(text_at(tree, i + 1)) {

@@ -106,7 +106,15 @@ pub(crate) fn put_token(
     match kind_at(tree, i) {
         Kind::Symbol => {
             let name = text_at(tree, i);
-            put_name(alloc, draft, context.state, bound, context.inside, place, name)
+            put_name(
+                alloc,
+                draft,
+                context.state,
+                bound,
+                context.inside,
+                place,
+                name,
+            )
         }
         Kind::Left | Kind::Right | Kind::Keyword => Err(Stop::at(alloc, Refusal::BadForm, place)),
         Kind::Numeral | Kind::Decimal | Kind::Hex | Kind::Binary | Kind::Text => {

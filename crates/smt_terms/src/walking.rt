@@ -85,7 +85,12 @@ fn close(
     requires { trees_from context.now.tree.now i ≡ End }
     ensures { Steps context.now.tree.now context.now.state.now context.now.inside missing frames.old.items bound.old frames.new.items bound.new draft.old draft.new i result }
 {
-    let Context { alloc, state, tree, .. } = *context;
+    let Context {
+        alloc,
+        state,
+        tree,
+        ..
+    } = *context;
     match frames.pop() {
         None => Err(Stop::at(alloc, Refusal::BadForm, missing)),
         Some(frame) => match value_of_list(alloc, draft, state, tree, &frame) {
