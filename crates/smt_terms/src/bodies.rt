@@ -176,13 +176,9 @@ fn pass_annotation(alloc: Global, patterns: &mut Vec<u32>, tree: &Tree, i: u32) 
 {
     let _len = tree.len();
     let head = place_at(tree, i + 1);
-    match check_attributes(alloc, tree, i + 2, head) {
-        Err(stop) => Err(stop),
-        Ok(()) => {
-            gather(patterns, tree, behind_one(tree, i + 2))?;
-            Ok(())
-        }
-    }
+    check_attributes(alloc, tree, i + 2, head)?;
+    gather(patterns, tree, behind_one(tree, i + 2))?;
+    Ok(())
 }
 
 /// The body of a forall that comes next, without the attributes round it.

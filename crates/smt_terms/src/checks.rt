@@ -119,10 +119,8 @@ fn check_binding(alloc: Global, tree: &Tree, i: u32, names: &DistinctNames) -> R
 {
     let _len = tree.len();
     let paren = place_at(tree, i);
-    match check_exactly(alloc, tree, i + 1, 2, head_place_at(tree, i + 1, paren)) {
-        Err(stop) => Err(stop),
-        Ok(()) => check_binding_name(alloc, tree, i + 1, names, paren),
-    }
+    check_exactly(alloc, tree, i + 1, 2, head_place_at(tree, i + 1, paren))?;
+    check_binding_name(alloc, tree, i + 1, names, paren)
 }
 
 /// Bindings come next, to the end of the list, of which none has the name of an earlier one.
@@ -162,10 +160,8 @@ pub fn check_bindings(alloc: Global, tree: &Tree, i: u32, missing: Place) -> Res
         Seen::End => Err(Stop::at(alloc, Refusal::BadForm, missing)),
         Seen::Token => Err(Stop::at(alloc, Refusal::BadForm, place_at(tree, i))),
         Seen::List { after } => {
-            match check_some_bindings(alloc, tree, i + 1, place_at(tree, i)) {
-                Err(stop) => Err(stop),
-                Ok(()) => Ok(after),
-            }
+            check_some_bindings(alloc, tree, i + 1, place_at(tree, i))?;
+            Ok(after)
         }
     }
 }
@@ -219,8 +215,6 @@ fn check_attributes_after(alloc: Global, tree: &Tree, i: u32) -> Result<(), Stop
 pub fn check_attributes(alloc: Global, tree: &Tree, i: u32, head: Place) -> Result<(), Stop>
     ensures { Checks result (attributes_of head (trees_from tree.now i)) }
 {
-    match check_at_least(alloc, tree, i, 2, head) {
-        Err(stop) => Err(stop),
-        Ok(()) => check_attributes_after(alloc, tree, behind_one(tree, i)),
-    }
+    check_at_least(alloc, tree, i, 2, head)?;
+    check_attributes_after(alloc, tree, behind_one(tree, i))
 }

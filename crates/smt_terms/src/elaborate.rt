@@ -33,15 +33,11 @@ fn pass_forall(
     ensures { (missing : Place) → Advances context.now.tree.now context.now.state.now context.now.inside missing frames.old.items bound.old frames.new.items bound.new draft.old draft.new i result }
 {
     let Context { alloc, tree, .. } = *context;
-    match put_forall(context, draft, bound, i) {
-        Err(stop) => Err(stop),
-        Ok(value) => {
-            let place = place_at(tree, i);
-            match give(alloc, tree, frames, bound, after, Arg { place, value }) {
-                Err(_) => Err(Stop::Memory),
-                Ok(next) => Ok(next),
-            }
-        }
+    let value = put_forall(context, draft, bound, i)?;
+    let place = place_at(tree, i);
+    match give(alloc, tree, frames, bound, after, Arg { place, value }) {
+        Err(_) => Err(Stop::Memory),
+        Ok(next) => Ok(next),
     }
 }
 

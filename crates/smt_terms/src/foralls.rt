@@ -116,13 +116,9 @@ fn put_quantified(
         },
         ..*context
     };
-    match put_inside(&within, draft, bound, heading, variables, body) {
-        Err(stop) => Err(stop),
-        Ok(value) => {
-            bound.truncate(outside);
-            Ok(value)
-        }
-    }
+    let value = put_inside(&within, draft, bound, heading, variables, body)?;
+    bound.truncate(outside);
+    Ok(value)
 }
 
 /// The body and the triggers of a forall whose variables are these. The attributes round the body are checked first.
@@ -140,21 +136,17 @@ fn put_body(
     if i == u32::MAX {
         return Err(Stop::Memory);
     }
-    match read_body(context.alloc, context.tree, body) {
-        Err(stop) => Err(stop),
-        Ok(found) => {
-            let paren = place_at(context.tree, i);
-            let head = place_at(context.tree, i + 1);
-            put_quantified(
-                context,
-                draft,
-                bound,
-                Heading { paren, head },
-                variables,
-                &found,
-            )
-        }
-    }
+    let found = read_body(context.alloc, context.tree, body)?;
+    let paren = place_at(context.tree, i);
+    let head = place_at(context.tree, i + 1);
+    put_quantified(
+        context,
+        draft,
+        bound,
+        Heading { paren, head },
+        variables,
+        &found,
+    )
 }
 
 /// A forall whose bindings have the right form: their number and their sorts are checked, and then its body.
@@ -175,16 +167,9 @@ fn put_bound_forall(
         tree,
         ..
     } = *context;
-    match check_few_bindings(alloc, tree, bindings, 32, Refusal::TooManyVariables) {
-        Err(stop) => Err(stop),
-        Ok(()) => match variables_at(alloc, state, tree, bindings) {
-            Err(stop) => Err(stop),
-            Ok(variables) => {
-                let variables = variables.as_slice();
-                put_body(context, draft, bound, i, variables, body)
-            }
-        },
-    }
+    check_few_bindings(alloc, tree, bindings, 32, Refusal::TooManyVariables)?;
+    let variables = variables_at(alloc, state, tree, bindings)?;
+    put_body(context, draft, bound, i, variables.as_slice(), body)
 }
 
 /// A forall: its form is checked, and then what it binds.
@@ -202,13 +187,9 @@ fn put_checked_forall(
 {
     let Context { alloc, tree, .. } = *context;
     let head = place_at(tree, i + 1);
-    match check_exactly(alloc, tree, parts, 2, head) {
-        Err(stop) => Err(stop),
-        Ok(()) => match check_bindings(alloc, tree, parts, head) {
-            Err(stop) => Err(stop),
-            Ok(body) => put_bound_forall(context, draft, bound, i, parts + 1, body),
-        },
-    }
+    check_exactly(alloc, tree, parts, 2, head)?;
+    let body = check_bindings(alloc, tree, parts, head)?;
+    put_bound_forall(context, draft, bound, i, parts + 1, body)
 }
 
 /// Whether a forall may stand there: neither inside a forall nor inside a definition.

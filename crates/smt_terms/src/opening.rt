@@ -53,23 +53,17 @@ fn open_let(
     let _len = tree.len();
     let head = place_at(tree, i + 1);
     let parts = i + 2;
-    match check_exactly(alloc, tree, parts, 2, head) {
-        Err(stop) => Err(stop),
-        Ok(()) => match check_bindings(alloc, tree, parts, head) {
-            Err(stop) => Err(stop),
-            Ok(body) => {
-                let round = Round {
-                    paren: place_at(tree, i),
-                    head,
-                    after,
-                };
-                let none = Vec::new(alloc);
-                match enter_binding(tree, frames, bound, &round, none, parts + 1, body) {
-                    Err(_) => Err(Stop::Memory),
-                    Ok(at) => Ok(Opened::At(at)),
-                }
-            }
-        },
+    check_exactly(alloc, tree, parts, 2, head)?;
+    let body = check_bindings(alloc, tree, parts, head)?;
+    let round = Round {
+        paren: place_at(tree, i),
+        head,
+        after,
+    };
+    let none = Vec::new(alloc);
+    match enter_binding(tree, frames, bound, &round, none, parts + 1, body) {
+        Err(_) => Err(Stop::Memory),
+        Ok(at) => Ok(Opened::At(at)),
     }
 }
 
@@ -87,18 +81,14 @@ fn open_annotated(
 {
     let _len = tree.len();
     let head = place_at(tree, i + 1);
-    match check_attributes(alloc, tree, i + 2, head) {
-        Err(stop) => Err(stop),
-        Ok(()) => {
-            frames.push(Frame {
-                paren: place_at(tree, i),
-                head,
-                after,
-                work: Work::Pass { bound: bound.len() },
-            })?;
-            Ok(Opened::At(i + 2))
-        }
-    }
+    check_attributes(alloc, tree, i + 2, head)?;
+    frames.push(Frame {
+        paren: place_at(tree, i),
+        head,
+        after,
+        work: Work::Pass { bound: bound.len() },
+    })?;
+    Ok(Opened::At(i + 2))
 }
 
 /// What a name stands for, where it stands for something.

@@ -97,17 +97,13 @@ fn put_listed(
 fn check_number(alloc: Global, tree: &Tree, i: u32, paren: Place) -> Result<(), Stop>
     ensures { HasNumber tree.now i paren result }
 {
-    match check_at_least(alloc, tree, i, 1, paren) {
-        Err(stop) => Err(stop),
-        Ok(()) => {
-            check_no_more(
-                alloc,
-                tree,
-                behind_some(tree, i, 16),
-                Refusal::TooManyPatterns,
-            )
-        }
-    }
+    check_at_least(alloc, tree, i, 1, paren)?;
+    check_no_more(
+        alloc,
+        tree,
+        behind_some(tree, i, 16),
+        Refusal::TooManyPatterns,
+    )
 }
 
 /// The place of the tree or of the keyword at which a list of patterns is missing.

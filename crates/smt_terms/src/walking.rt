@@ -126,15 +126,11 @@ fn pass_token(
 {
     let Context { alloc, tree, .. } = *context;
     let _len = tree.len();
-    match put_token(context, draft, bound, i) {
-        Err(stop) => Err(stop),
-        Ok(value) => {
-            let place = place_at(tree, i);
-            match give(alloc, tree, frames, bound, i + 1, Arg { place, value }) {
-                Err(_) => Err(Stop::Memory),
-                Ok(next) => Ok(step_to(next)),
-            }
-        }
+    let value = put_token(context, draft, bound, i)?;
+    let place = place_at(tree, i);
+    match give(alloc, tree, frames, bound, i + 1, Arg { place, value }) {
+        Err(_) => Err(Stop::Memory),
+        Ok(next) => Ok(step_to(next)),
     }
 }
 
@@ -149,10 +145,8 @@ fn enter_list(
     requires { SeesList context.now.tree.now i after }
     ensures { (missing : Place) (draft : Draft) → Steps context.now.tree.now context.now.state.now context.now.inside missing frames.old.items bound.old frames.new.items bound.new draft draft i result }
 {
-    match open_list(context, frames, bound, i, after) {
-        Err(stop) => Err(stop),
-        Ok(opened) => Ok(step_into(opened, i, after)),
-    }
+    let opened = open_list(context, frames, bound, i, after)?;
+    Ok(step_into(opened, i, after))
 }
 
 /// One step: a list ends, a token is passed, or a list begins.
