@@ -15,9 +15,9 @@ use Rattle.smt_names.specs.Making.{made, then_from, want, ◌>>◌}
 use Rattle.smt_names.specs.Names.{State, Scope}
 use Rattle.smt_terms.specs.declared.inside.Inside.{Inside}
 use Rattle.smt_terms.specs.Machine.{scope_of}
-use Rattle.smt_terms.specs.Meant.{Meant, first_place}
+use Rattle.smt_terms.specs.Reading.{Reading, first_place}
 use Rattle.smt_terms.specs.Terms.{value}
-use Rattle.smt_terms.specs.Cursor.{here}
+use Rattle.smt_terms.specs.Cursor.{trees_from}
 use Rattle.smt_laws.specs.Laws.{MakesFormulas}
 use Rattle.smt_commands.specs.declared.command.Command.TheVariants.{Assert}
 use Rattle.smt_commands.specs.Commands.{begun, sorted_value, asserted, asserted_term, without_draft}
@@ -37,7 +37,7 @@ made_sort (Ok r) = sort_of r.0
 made_sort (Err fault) = 0
 
 -- a value of this sort is a value, and has this sort
-pub value_of_sorted : (head : Place) (scope : Scope) (sort : ℕ) (trees : Meant) (old new : Draft) (v : Value) → sorted_value head scope sort trees old ≡ Ok (v, new)
+pub value_of_sorted : (head : Place) (scope : Scope) (sort : ℕ) (trees : Reading) (old new : Draft) (v : Value) → sorted_value head scope sort trees old ≡ Ok (v, new)
     → (value head scope trees old ≡ Ok (v, new)) × (sort_of v ≡ sort)
 value_of_sorted head scope sort trees old new v is = by (value head scope trees old) is
   where
@@ -52,20 +52,20 @@ value_of_sorted head scope sort trees old new v is = by (value head scope trees 
     by (Err fault) same = absurd (cc)
 
 -- what begins with these limits and these bound names, begins as every command does
-pub from_start : (state : State) (inside : Inside) (bound all : List Bound) (limits : Limits) (old : Draft) (head : Place) (sort : ℕ) (trees : Meant) → limits ≡ state.limits → bound ≡ all → old ≡ empty_draft limits.terms limits.nodes
+pub from_start : (state : State) (inside : Inside) (bound all : List Bound) (limits : Limits) (old : Draft) (head : Place) (sort : ℕ) (trees : Reading) → limits ≡ state.limits → bound ≡ all → old ≡ empty_draft limits.terms limits.nodes
     → sorted_value head (scope_of state inside bound) sort trees old ≡ sorted_value head (scope_of state inside all) sort trees (draft_of state)
 from_start state inside bound all limits old head sort trees limits_are bound_are nothing = ap (λ (b : List Bound). sorted_value head (scope_of state inside b) sort trees old) bound_are
     ∙ ap (λ (d : Draft). sorted_value head (scope_of state inside all) sort trees d) (nothing ∙ ap (λ (l : Limits). empty_draft l.terms l.nodes) limits_are)
 
 -- a truth that was read of nothing, outside foralls and definitions, is a formula
 pub reads_formula : MakesFormulas → (state : State) (words : List Word) (i : ℕ) (head : Place) (new : Draft) (v : Value) → IsSound state
-    → sorted_value head (outside state) 0 (here words i) (draft_of state) ≡ Ok (v, new) → IsFormula (finished new (self v))
-unfolding here
+    → sorted_value head (outside state) 0 (trees_from words i) (draft_of state) ≡ Ok (v, new) → IsFormula (finished new (self v))
+unfolding trees_from
 reads_formula law state words i head new v sound is =
-    let both = value_of_sorted head (outside state) 0 (here words i) (draft_of state) new v is in
+    let both = value_of_sorted head (outside state) 0 (trees_from words i) (draft_of state) new v is in
     (law state head (outermost (ahead (drop i words))) state.limits.terms state.limits.nodes v new sound.declared both.0 both.1).0
 
 -- and it is asserted
-pub asserts_formula : (state : State) (head : Place) (trees : Meant) (new : Draft) (v : Value) (formula : Formula) → sorted_value head (outside state) 0 trees (draft_of state) ≡ Ok (v, new) → formula ≡ finished new (self v)
+pub asserts_formula : (state : State) (head : Place) (trees : Reading) (new : Draft) (v : Value) (formula : Formula) → sorted_value head (outside state) 0 trees (draft_of state) ≡ Ok (v, new) → formula ≡ finished new (self v)
     → begun state (asserted_term state head trees) ≡ answered (Assert formula) state
 asserts_formula state head trees new v formula is same = ap (λ (r : Result (Value × Draft) SyntaxFault). without_draft (then_from (asserted state) r)) is ∙ ap (λ (f : Formula). answered (Assert f) state) (sym same)

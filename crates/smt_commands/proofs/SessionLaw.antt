@@ -15,8 +15,8 @@ use Rattle.smt_names.specs.declared.refusal.Refusal.TheVariants as refusal
 use Rattle.smt_names.specs.Value.{sort_of, self}
 use Rattle.smt_names.specs.Making.{Making, made, then_from, ◌>>◌, want, bad_form}
 use Rattle.smt_names.specs.Names.{State, Defined, is_symbol, with_sort, with_function, declared_as, at_start, cleared, level_of, pushed, popped}
-use Rattle.smt_terms.specs.Meant.{Meant, from, first_place, at_most}
-use Rattle.smt_terms.specs.Terms.{value, meant}
+use Rattle.smt_terms.specs.Reading.{Reading, from, first_place, at_most}
+use Rattle.smt_terms.specs.Terms.{value, reading}
 use Rattle.smt_laws.specs.Sorted.{IsTruth}
 use Rattle.smt_laws.specs.Sound.{IsDefinition}
 use Rattle.smt_terms.specs.Scopes.{outside, inside_definition, sorts_of}
@@ -142,94 +142,94 @@ behind_trees (suc n) trees.End = trees.End
 behind_trees (suc n) (trees.Token word after) = behind_trees n after
 behind_trees (suc n) (trees.Group paren inner after) = behind_trees n after
 
-from_meant : (n : ℕ) (t : trees.Trees) → from n (meant t) ≡ meant (behind_trees n t)
-unfolding meant behind_trees
-from_meant zero t = refl
-from_meant (suc n) trees.End = refl
-from_meant (suc n) (trees.Token word after) = from_meant n after
-from_meant (suc n) (trees.Group paren inner after) = from_meant n after
+from_reading : (n : ℕ) (t : trees.Trees) → from n (reading t) ≡ reading (behind_trees n t)
+unfolding reading behind_trees
+from_reading zero t = refl
+from_reading (suc n) trees.End = refl
+from_reading (suc n) (trees.Token word after) = from_reading n after
+from_reading (suc n) (trees.Group paren inner after) = from_reading n after
 
 -- Commands.
 module _ (makes_formulas : MakesFormulas) (makes_definitions : MakesDefinitions) (keeps : KeepsDefinitions) (state : State) (is : IsSound state) where
-  set_option_right : (head : Place) (parts : Meant) (draft : Draft) → Answered (set_option state head parts draft)
+  set_option_right : (head : Place) (parts : Reading) (draft : Draft) → Answered (set_option state head parts draft)
   set_option_right head parts draft = behind _ (key_form head parts draft) λ key later. by (bytes_eq key.text (codes ":print-success")) later
     where
       by : (b : Bool) (later : Draft) → Answered (set_by state head (from 1 parts) b later)
       by true later = behind _ (truth_first head (from 1 parts) later) λ prints last. silence (record state { prints_success = prints }) last (sound_printing state is prints)
       by false later = behind _ (plain_value (from 1 parts) later) λ _ last. changed Unsupported state last is (λ formula same. cc)
 
-  declare_fun_right : (head : Place) (parts : Meant) (draft : Draft) → Answered (declare_fun state head parts draft)
+  declare_fun_right : (head : Place) (parts : Reading) (draft : Draft) → Answered (declare_fun state head parts draft)
   declare_fun_right head parts draft =
       behind_check draft _ (checks_named_form draft 3 state head parts) λ name _.
       behind_check draft _ (checks_signature draft state head (from 1 parts)) λ sorts few.
       silence (with_function name.text sorts state) draft (sound_with_function state is keeps name.text sorts few)
 
-  declare_const_right : (head : Place) (parts : Meant) (draft : Draft) → Answered (declare_const state head parts draft)
+  declare_const_right : (head : Place) (parts : Reading) (draft : Draft) → Answered (declare_const state head parts draft)
   declare_const_right head parts draft =
       behind_check draft _ (checks_named_form draft 2 state head parts) λ name _.
       behind_check draft _ (checks_constant draft state head (from 1 parts)) λ sorts few.
       silence (with_function name.text sorts state) draft (sound_with_function state is keeps name.text sorts few)
 
-  define_fun_right : (head : Place) (t : trees.Trees) → Answered (define_fun state head (meant t) (draft_of state))
+  define_fun_right : (head : Place) (t : trees.Trees) → Answered (define_fun state head (reading t) (draft_of state))
   define_fun_right head t =
       let draft = draft_of state in
-      behind_check draft _ (checks_named_form draft 4 state head (meant t)) λ name _.
-      behind_check draft _ (checks_parameters draft state head (from 1 (meant t))) λ parameters are.
-      behind_check draft _ (checks_sort draft state head (from 2 (meant t))) λ sort known.
+      behind_check draft _ (checks_named_form draft 4 state head (reading t)) λ name _.
+      behind_check draft _ (checks_parameters draft state head (from 1 (reading t))) λ parameters are.
+      behind_check draft _ (checks_sort draft state head (from 2 (reading t))) λ sort known.
       define name.text parameters are sort known
     where
       define : (name : List ℕ) (parameters : List Bound) → AreParameters state (draft_of state) parameters → (sort : ℕ) → sort ≤ length state.sorts
-          → Answered (then_from (defined state name parameters sort) (sorted_value head (inside_definition state parameters) sort (from 3 (meant t)) (draft_of state)))
+          → Answered (then_from (defined state name parameters sort) (sorted_value head (inside_definition state parameters) sort (from 3 (reading t)) (draft_of state)))
       define name parameters are sort known =
           let draft = draft_of state in
-          let made_so = value head (inside_definition state parameters) (from 3 (meant t)) draft in
-          behind_sorted sort made_so _ (sorted_by (first_place head (from 3 (meant t))) sort made_so) λ v later was _.
+          let made_so = value head (inside_definition state parameters) (from 3 (reading t)) draft in
+          behind_sorted sort made_so _ (sorted_by (first_place head (from 3 (reading t))) sort made_so) λ v later was _.
           let right = makes_definitions state head are.bindings draft draft parameters (behind_trees 3 t) state.limits.terms state.limits.nodes v later name sort (sorts_of parameters) is.declared are.given
-          (subst (λ (parts : Meant). value head (inside_definition state parameters) parts draft ≡ Ok (v, later)) (from_meant 3 t) was) refl in
+          (subst (λ (parts : Reading). value head (inside_definition state parameters) parts draft ≡ Ok (v, later)) (from_reading 3 t) was) refl in
           silence (record state { definitions = state.definitions ++ record { name = name; parameters = sorts_of parameters; sort = sort; rows = later.rows; nodes = later.nodes; value = v } ∷ [] }) later
           (sound_with_definition state is (record { name = name; parameters = sorts_of parameters; sort = sort; rows = later.rows; nodes = later.nodes; value = v }) right (record { parameters = are.known; value = known }))
 
-  assert_right : (head : Place) (t : trees.Trees) → Answered (assert_truth state head (meant t) (draft_of state))
+  assert_right : (head : Place) (t : trees.Trees) → Answered (assert_truth state head (reading t) (draft_of state))
   assert_right head t =
       let draft = draft_of state in
-      behind_check draft _ (checks_exactly draft 1 head (meant t)) λ _ _.
-      let made_so = value head (outside state) (meant t) draft in
-      behind_sorted 0 made_so _ (sorted_by (first_place head (meant t)) 0 made_so) λ v later was bool.
+      behind_check draft _ (checks_exactly draft 1 head (reading t)) λ _ _.
+      let made_so = value head (outside state) (reading t) draft in
+      behind_sorted 0 made_so _ (sorted_by (first_place head (reading t)) 0 made_so) λ v later was bool.
       answers is (λ formula same. let e : finished later (self v) ≡ formula = cc in
       subst (λ (f : Formula). IsFormula f × IsTruth state.functions [] f.rows f.nodes f.foralls f.root) e (makes_formulas state head t state.limits.terms state.limits.nodes v later is.declared was bool))
 
-  headed_right : (head : Place) (t : trees.Trees) (name : Named) → Answered (headed state head (meant t) name (draft_of state))
-  headed_right head t named.SetLogic = behind _ (logic_form head (meant t) (draft_of state)) λ _ later. silence state later is
-  headed_right head t named.SetOption = set_option_right head (meant t) (draft_of state)
-  headed_right head t named.SetInfo = behind _ (info_form head (meant t) (draft_of state)) λ _ later. silence state later is
-  headed_right head t named.DeclareSort = behind _ (sort_form state head (meant t) (draft_of state)) λ name later. silence (with_sort name.text state) later (sound_with_sort state is name.text)
-  headed_right head t named.DeclareFun = declare_fun_right head (meant t) (draft_of state)
-  headed_right head t named.DeclareConst = declare_const_right head (meant t) (draft_of state)
+  headed_right : (head : Place) (t : trees.Trees) (name : Named) → Answered (headed state head (reading t) name (draft_of state))
+  headed_right head t named.SetLogic = behind _ (logic_form head (reading t) (draft_of state)) λ _ later. silence state later is
+  headed_right head t named.SetOption = set_option_right head (reading t) (draft_of state)
+  headed_right head t named.SetInfo = behind _ (info_form head (reading t) (draft_of state)) λ _ later. silence state later is
+  headed_right head t named.DeclareSort = behind _ (sort_form state head (reading t) (draft_of state)) λ name later. silence (with_sort name.text state) later (sound_with_sort state is name.text)
+  headed_right head t named.DeclareFun = declare_fun_right head (reading t) (draft_of state)
+  headed_right head t named.DeclareConst = declare_const_right head (reading t) (draft_of state)
   headed_right head t named.DefineFun = define_fun_right head t
   headed_right head t named.Assert = assert_right head t
-  headed_right head t named.Push = behind _ (push_form state head (meant t) (draft_of state)) λ n later. changed (Push n) (pushed n state) later (sound_pushed state is n) (λ formula same. cc)
-  headed_right head t named.Pop = behind _ (pop_form state head (meant t) (draft_of state)) λ n later. changed (Pop n) (popped n state) later (sound_popped state is n) (λ formula same. cc)
-  headed_right head t named.CheckSat = behind _ (at_most 0 (meant t) (draft_of state)) λ _ later. changed CheckSat state later is (λ formula same. cc)
-  headed_right head t named.GetInfo = behind _ (asked_form head (meant t) (draft_of state)) λ key later. changed (GetInfo _) state later is (λ formula same. cc)
-  headed_right head t named.Reset = behind _ (at_most 0 (meant t) (draft_of state)) λ _ later. changed Reset (at_start state.limits) later (sound_at_start state.limits) (λ formula same. cc)
-  headed_right head t named.ResetAssertions = behind _ (at_most 0 (meant t) (draft_of state)) λ _ later. changed ResetAssertions (cleared state) later (sound_cleared state) (λ formula same. cc)
-  headed_right head t named.Exit = behind _ (at_most 0 (meant t) (draft_of state)) λ _ later. changed Exit state later is (λ formula same. cc)
+  headed_right head t named.Push = behind _ (push_form state head (reading t) (draft_of state)) λ n later. changed (Push n) (pushed n state) later (sound_pushed state is n) (λ formula same. cc)
+  headed_right head t named.Pop = behind _ (pop_form state head (reading t) (draft_of state)) λ n later. changed (Pop n) (popped n state) later (sound_popped state is n) (λ formula same. cc)
+  headed_right head t named.CheckSat = behind _ (at_most 0 (reading t) (draft_of state)) λ _ later. changed CheckSat state later is (λ formula same. cc)
+  headed_right head t named.GetInfo = behind _ (asked_form head (reading t) (draft_of state)) λ key later. changed (GetInfo _) state later is (λ formula same. cc)
+  headed_right head t named.Reset = behind _ (at_most 0 (reading t) (draft_of state)) λ _ later. changed Reset (at_start state.limits) later (sound_at_start state.limits) (λ formula same. cc)
+  headed_right head t named.ResetAssertions = behind _ (at_most 0 (reading t) (draft_of state)) λ _ later. changed ResetAssertions (cleared state) later (sound_cleared state) (λ formula same. cc)
+  headed_right head t named.Exit = behind _ (at_most 0 (reading t) (draft_of state)) λ _ later. changed Exit state later is (λ formula same. cc)
   headed_right head t named.Unsupported = changed Unsupported state (draft_of state) is (λ formula same. cc)
   headed_right head t named.Foreign = refused
   headed_right head t named.Unknown = refused
 
-  list_right : (paren : Place) (t : trees.Trees) → Answered (command_of state paren (meant t) (draft_of state))
-  unfolding meant
+  list_right : (paren : Place) (t : trees.Trees) → Answered (command_of state paren (reading t) (draft_of state))
+  unfolding reading
   list_right paren trees.End = refused
   list_right paren (trees.Group inner parts after) = refused
   list_right paren (trees.Token head parts) = by (is_symbol head.kind) (command_named head.text)
     where
-      by : (b : Bool) (name : Named) → Answered (cond b (headed state head.place (meant parts) name) (bad_form head.place) (draft_of state))
+      by : (b : Bool) (name : Named) → Answered (cond b (headed state head.place (reading parts) name) (bad_form head.place) (draft_of state))
       by true name = headed_right head.place parts name
       by false name = refused
 
-  command_right : (t : trees.Trees) → Answered (command_at state (meant t) (draft_of state))
-  unfolding meant
+  command_right : (t : trees.Trees) → Answered (command_at state (reading t) (draft_of state))
+  unfolding reading
   command_right trees.End = refused
   command_right (trees.Token word after) = refused
   command_right (trees.Group paren inner after) = list_right paren.place inner

@@ -5,6 +5,7 @@ use Rattle.std.proofs.lemmas.Option.{none-some, same_Some}
 use Rattle.std.proofs.lemmas.List.Elements.{All-nil, All-cons}
 use Rattle.smt_text.specs.Word.{Word}
 use Rattle.smt_text.specs.declared.token.Place.{Place}
+use Rattle.graph_terms.specs.Terms.{most_args}
 use Rattle.formula_draft.specs.Draft.{Draft}
 use Rattle.smt_names.specs.declared.bound.Bound.{Bound}
 use Rattle.smt_names.specs.declared.signature.Signature.{Signature}
@@ -13,7 +14,7 @@ use Rattle.smt_names.specs.declared.refusal.Refusal.{Refusal}
 use Rattle.smt_names.specs.declared.refusal.Refusal.TheVariants as refusal
 use Rattle.smt_names.specs.Making.{Making, made, then_from, ◌>>=◌, want, want_named, bad_form}
 use Rattle.smt_names.specs.Names.{State, is_symbol, is_known, named, is_solver_name, is_reserved, known_sort, sort_number, sort_at_place, lawful_name, new_name, new_function_name}
-use Rattle.smt_terms.specs.Meant.{Meaning, Meant, End, Token, Group, from, first_place, no_more, at_least, exactly, token_first, Listed, list_first, sort_first, other_sort, head_place, binding_name, bindings_after, no_binding}
+use Rattle.smt_terms.specs.Reading.{Meaning, Reading, End, Token, Group, from, first_place, no_more, at_least, exactly, token_first, Listed, list_first, sort_first, other_sort, head_place, binding_name, bindings_after, no_binding}
 use Rattle.smt_terms.specs.Terms.{variables_from}
 use Rattle.smt_terms.specs.Scopes.{sorts_of}
 use Rattle.smt_commands.specs.Commands.{other_sorts, new_function, named_form, argument_sorts, arguments_first, signature_first, constant_first, few_bindings, parameters_first}
@@ -67,26 +68,26 @@ module _ (draft : Draft) where
   checks_want_named true refusal place name = checked (tt {0})
   checks_want_named false refusal place name = stopped
 
-  checks_no_more : (refusal : Refusal) (trees : Meant) → Checked (λ _. trees ≡ End) draft (no_more refusal trees draft)
+  checks_no_more : (refusal : Refusal) (trees : Reading) → Checked (λ _. trees ≡ End) draft (no_more refusal trees draft)
   checks_no_more refusal End = checked refl
   checks_no_more refusal (Token word trees) = stopped
   checks_no_more refusal (Group paren meaning inner trees) = stopped
 
-  checks_at_least : (n : ℕ) (missing : Place) (trees : Meant) → Checked Anything draft (at_least n missing trees draft)
+  checks_at_least : (n : ℕ) (missing : Place) (trees : Reading) → Checked Anything draft (at_least n missing trees draft)
   checks_at_least zero missing trees = checked (tt {0})
   checks_at_least (suc n) missing End = stopped
   checks_at_least (suc n) missing (Token word trees) = checks_at_least n missing trees
   checks_at_least (suc n) missing (Group paren meaning inner trees) = checks_at_least n missing trees
 
-  pub checks_exactly : (n : ℕ) (missing : Place) (trees : Meant) → Checked (λ _. from n trees ≡ End) draft (exactly n missing trees draft)
+  pub checks_exactly : (n : ℕ) (missing : Place) (trees : Reading) → Checked (λ _. from n trees ≡ End) draft (exactly n missing trees draft)
   checks_exactly n missing trees = checked_then draft _ (checks_at_least n missing trees) λ _ _. checks_no_more refusal.BadForm (from n trees)
 
-  checks_token : (missing : Place) (trees : Meant) → Checked Anything draft (token_first missing trees draft)
+  checks_token : (missing : Place) (trees : Reading) → Checked Anything draft (token_first missing trees draft)
   checks_token missing End = stopped
   checks_token missing (Token word trees) = checked (tt {0})
   checks_token missing (Group paren meaning inner trees) = stopped
 
-  checks_list : (missing : Place) (trees : Meant) → Checked Anything draft (list_first missing trees draft)
+  checks_list : (missing : Place) (trees : Reading) → Checked Anything draft (list_first missing trees draft)
   checks_list missing End = stopped
   checks_list missing (Token word trees) = stopped
   checks_list missing (Group paren meaning inner trees) = checked (tt {0})
@@ -101,15 +102,15 @@ module _ (draft : Draft) where
   checks_function_name : (state : State) (word : Word) → Checked Anything draft (new_function_name state word draft)
   checks_function_name state word = checked_then draft _ (checks_new_name word) λ _ _. checks_want_named (not (is_known (named state word.text))) refusal.AlreadyDeclared word.place word.text
 
-  checks_new_function : (state : State) (head : Place) (parts : Meant) → Checked Anything draft (new_function state head parts draft)
+  checks_new_function : (state : State) (head : Place) (parts : Reading) → Checked Anything draft (new_function state head parts draft)
   checks_new_function state head parts = checked_then draft _ (checks_token head parts) λ name _. checked_then draft _ (checks_function_name state name) λ _ _. checked (tt {0})
 
-  pub checks_named_form : (n : ℕ) (state : State) (head : Place) (parts : Meant) → Checked Anything draft (named_form n state head parts draft)
+  pub checks_named_form : (n : ℕ) (state : State) (head : Place) (parts : Reading) → Checked Anything draft (named_form n state head parts draft)
   checks_named_form n state head parts = checked_then draft _ (checks_exactly n head parts) λ _ _. checks_new_function state head parts
 
   -- Sorts.
   -- the number of a sort that stands
-  pub checks_sort : (state : State) (missing : Place) (trees : Meant) → Checked (λ sort. sort ≤ length state.sorts) draft (sort_first state missing trees draft)
+  pub checks_sort : (state : State) (missing : Place) (trees : Reading) → Checked (λ sort. sort ≤ length state.sorts) draft (sort_first state missing trees draft)
   checks_sort state missing End = stopped
   checks_sort state missing (Token word trees) = by (is_symbol word.kind) (sort_number state word.text) refl
     where
@@ -122,32 +123,32 @@ module _ (draft : Draft) where
   other_from : (sort : ℕ) → not (sort == 0) ≡ true → 1 ≤ sort
   other_from sort other = grind arith
 
-  checks_other_sort : (state : State) (missing : Place) (trees : Meant) → Checked (λ sort. (1 ≤ sort) × (sort ≤ length state.sorts)) draft (other_sort state missing trees draft)
+  checks_other_sort : (state : State) (missing : Place) (trees : Reading) → Checked (λ sort. (1 ≤ sort) × (sort ≤ length state.sorts)) draft (other_sort state missing trees draft)
   checks_other_sort state missing trees = checked_then draft _ (checks_sort state missing trees) λ sort known. checked_then draft _ (checks_want (not (sort == 0)) refusal.NotInProfile (first_place missing trees)) λ _ other. checked (other_from sort other, known)
 
 -- sorts of arguments: none is Bool, they are among so many, and they are no more than the trees
-pub record AreOthers (most : ℕ) (trees : Meant) (sorts : List ℕ) : Type 0 where
+pub record AreOthers (most : ℕ) (trees : Reading) (sorts : List ℕ) : Type 0 where
   pub others : All (λ sort. 1 ≤ sort) sorts
   pub known : All (λ sort. sort ≤ most) sorts
   pub few : (n : ℕ) → from n trees ≡ End → length sorts ≤ n
 
-others_token : (most : ℕ) (word : Word) (trees : Meant) (sort : ℕ) (sorts : List ℕ) → (1 ≤ sort) × (sort ≤ most) → AreOthers most trees sorts → AreOthers most (Token word trees) (sort ∷ sorts)
+others_token : (most : ℕ) (word : Word) (trees : Reading) (sort : ℕ) (sorts : List ℕ) → (1 ≤ sort) × (sort ≤ most) → AreOthers most trees sorts → AreOthers most (Token word trees) (sort ∷ sorts)
 others_token most word trees sort sorts some are = record { others = All-cons (λ sort. 1 ≤ sort) sort sorts some.0 are.others; known = All-cons (λ sort. sort ≤ most) sort sorts some.1 are.known; few = few }
   where
     few : (n : ℕ) → from n (Token word trees) ≡ End → length (sort ∷ sorts) ≤ n
     few zero ends = cc
     few (suc n) ends = omega (arith, are.few n ends)
 
-others_list : (most : ℕ) (paren : Word) (meaning : Meaning) (inner trees : Meant) (sort : ℕ) (sorts : List ℕ) → (1 ≤ sort) × (sort ≤ most) → AreOthers most trees sorts → AreOthers most (Group paren meaning inner trees) (sort ∷ sorts)
+others_list : (most : ℕ) (paren : Word) (meaning : Meaning) (inner trees : Reading) (sort : ℕ) (sorts : List ℕ) → (1 ≤ sort) × (sort ≤ most) → AreOthers most trees sorts → AreOthers most (Group paren meaning inner trees) (sort ∷ sorts)
 others_list most paren meaning inner trees sort sorts some are = record { others = All-cons (λ sort. 1 ≤ sort) sort sorts some.0 are.others; known = All-cons (λ sort. sort ≤ most) sort sorts some.1 are.known; few = few }
   where
     few : (n : ℕ) → from n (Group paren meaning inner trees) ≡ End → length (sort ∷ sorts) ≤ n
     few zero ends = cc
     few (suc n) ends = omega (arith, are.few n ends)
 
--- sorts of arguments: at most 255, of which none is Bool, among so many
+-- sorts of arguments: at most most_args, of which none is Bool, among so many
 pub record AreFew (most : ℕ) (sorts : List ℕ) : Type 0 where
-  pub few : length sorts ≤ 255
+  pub few : length sorts ≤ most_args
   pub others : All (λ sort. 1 ≤ sort) sorts
   pub known : All (λ sort. sort ≤ most) sorts
 
@@ -157,7 +158,7 @@ pub record AreFewSorts (most : ℕ) (sorts : Signature) : Type 0 where
   pub value : sorts.sort ≤ most
 
 module _ (draft : Draft) (state : State) where
-  checks_other_sorts : (missing : Place) (trees : Meant) → Checked (AreOthers (length state.sorts) trees) draft (other_sorts state missing trees draft)
+  checks_other_sorts : (missing : Place) (trees : Reading) → Checked (AreOthers (length state.sorts) trees) draft (other_sorts state missing trees draft)
   checks_other_sorts missing End = checked (record { others = All-nil (λ sort. 1 ≤ sort); known = All-nil (λ sort. sort ≤ length state.sorts); few = λ n _. omega arith })
   checks_other_sorts missing (Token word trees) =
       checked_then draft _ (checks_other_sort draft state missing (Token word trees)) λ sort some.
@@ -168,44 +169,44 @@ module _ (draft : Draft) (state : State) where
 
   checks_argument_sorts : (listed : Listed) → Checked (AreFew (length state.sorts)) draft (argument_sorts state listed draft)
   checks_argument_sorts listed =
-      checked_then draft _ (checks_no_more draft refusal.TooManyArguments (from 255 listed.inner)) λ _ ends.
+      checked_then draft _ (checks_no_more draft refusal.TooManyArguments (from most_args listed.inner)) λ _ ends.
       few_of (checks_other_sorts listed.paren.place listed.inner) ends
     where
-      few_of : {r : Result (List ℕ × Draft) SyntaxFault} → Checked (AreOthers (length state.sorts) listed.inner) draft r → from 255 listed.inner ≡ End → Checked (AreFew (length state.sorts)) draft r
-      few_of (checked are) ends = checked (record { few = are.few 255 ends; others = are.others; known = are.known })
+      few_of : {r : Result (List ℕ × Draft) SyntaxFault} → Checked (AreOthers (length state.sorts) listed.inner) draft r → from most_args listed.inner ≡ End → Checked (AreFew (length state.sorts)) draft r
+      few_of (checked are) ends = checked (record { few = are.few most_args ends; others = are.others; known = are.known })
       few_of stopped ends = stopped
 
-  checks_arguments : (head : Place) (parts : Meant) → Checked (AreFew (length state.sorts)) draft (arguments_first state head parts draft)
+  checks_arguments : (head : Place) (parts : Reading) → Checked (AreFew (length state.sorts)) draft (arguments_first state head parts draft)
   checks_arguments head parts = checked_then draft _ (checks_list draft head parts) λ listed _. checks_argument_sorts listed
 
-  pub checks_signature : (head : Place) (parts : Meant) → Checked (AreFewSorts (length state.sorts)) draft (signature_first state head parts draft)
+  pub checks_signature : (head : Place) (parts : Reading) → Checked (AreFewSorts (length state.sorts)) draft (signature_first state head parts draft)
   checks_signature head parts = checked_then draft _ (checks_arguments head parts) λ arguments few. checked_then draft _ (checks_sort draft state head (from 1 parts)) λ sort known. checked (record { arguments = few; value = known })
 
-  pub checks_constant : (head : Place) (parts : Meant) → Checked (AreFewSorts (length state.sorts)) draft (constant_first state head parts draft)
+  pub checks_constant : (head : Place) (parts : Reading) → Checked (AreFewSorts (length state.sorts)) draft (constant_first state head parts draft)
   checks_constant head parts = checked_then draft _ (checks_sort draft state head parts) λ sort known. checked (record { arguments = record { few = omega arith; others = All-nil (λ sort. 1 ≤ sort); known = All-nil (λ sort. sort ≤ length state.sorts) }; value = known })
 
 -- Parameters.
 module _ (draft : Draft) where
-  checks_binding_name : (names : List (List ℕ)) (paren : Word) (inner : Meant) → Checked Anything draft (binding_name names paren inner draft)
+  checks_binding_name : (names : List (List ℕ)) (paren : Word) (inner : Reading) → Checked Anything draft (binding_name names paren inner draft)
   checks_binding_name names paren inner =
       checked_then draft _ (checks_exactly draft 2 (head_place paren.place inner) inner) λ _ _.
       checked_then draft _ (checks_token draft paren.place inner) λ name _.
       checked_then draft _ (checks_lawful_name draft name) λ _ _.
       checked_then draft _ (checks_want draft (not (list_any (bytes_eq name.text) names)) refusal.BadForm name.place) λ _ _. checked (tt {0})
 
-  checks_bindings : (names : List (List ℕ)) (trees : Meant) → Checked Anything draft (bindings_after names trees draft)
+  checks_bindings : (names : List (List ℕ)) (trees : Reading) → Checked Anything draft (bindings_after names trees draft)
   checks_bindings names End = checked (tt {0})
   checks_bindings names (Token word trees) = stopped
   checks_bindings names (Group paren meaning inner trees) = checked_then draft _ (checks_binding_name names paren inner) λ name _. checks_bindings (names ++ name.text ∷ []) trees
 
-  checks_no_binding : (refusal : Refusal) (trees : Meant) → Checked Anything draft (no_binding refusal trees draft)
+  checks_no_binding : (refusal : Refusal) (trees : Reading) → Checked Anything draft (no_binding refusal trees draft)
   checks_no_binding refusal (Group paren meaning (Token name given) trees) = stopped
   checks_no_binding refusal trees = checked (tt {0})
 
-  checks_few_bindings : (trees : Meant) → Checked Anything draft (few_bindings trees draft)
-  checks_few_bindings trees = checked_then draft _ (checks_bindings [] trees) λ _ _. checks_no_binding refusal.TooManyArguments (from 255 trees)
+  checks_few_bindings : (trees : Reading) → Checked Anything draft (few_bindings trees draft)
+  checks_few_bindings trees = checked_then draft _ (checks_bindings [] trees) λ _ _. checks_no_binding refusal.TooManyArguments (from most_args trees)
 
-  checks_variables : (state : State) (index : ℕ) (trees : Meant) → Checked (λ variables. All (λ sort. sort ≤ length state.sorts) (sorts_of variables)) draft (variables_from state index trees draft)
+  checks_variables : (state : State) (index : ℕ) (trees : Reading) → Checked (λ variables. All (λ sort. sort ≤ length state.sorts) (sorts_of variables)) draft (variables_from state index trees draft)
   checks_variables state index (Group paren meaning (Token name given) after) =
       checked_then draft _ (checks_other_sort draft state name.place given) λ sort known.
       checked_then draft _ (checks_variables state (index + 1) after) λ variables are. checked (All-cons (λ sort. sort ≤ length state.sorts) sort (sorts_of variables) known.1 are)
@@ -213,16 +214,16 @@ module _ (draft : Draft) where
 
 -- the parameters are the variables of some bindings, of sorts that stand
 pub record AreParameters (state : State) (draft : Draft) (parameters : List Bound) : Type 0 where
-  pub bindings : Meant
+  pub bindings : Reading
   pub given : variables_from state 0 bindings draft ≡ Ok (parameters, draft)
   pub known : All (λ sort. sort ≤ length state.sorts) (sorts_of parameters)
 
-pub checks_parameters : (draft : Draft) (state : State) (head : Place) (parts : Meant) → Checked (AreParameters state draft) draft (parameters_first state head parts draft)
+pub checks_parameters : (draft : Draft) (state : State) (head : Place) (parts : Reading) → Checked (AreParameters state draft) draft (parameters_first state head parts draft)
 checks_parameters draft state head parts =
     checked_then draft _ (checks_list draft head parts) λ listed _.
     checked_then draft _ (checks_few_bindings draft listed.inner) λ _ _.
     given_by listed.inner (gave draft (checks_variables draft state 0 listed.inner))
   where
-    given_by : (inner : Meant) {r : Result (List Bound × Draft) SyntaxFault} → Checked (λ parameters. All (λ sort. sort ≤ length state.sorts) (sorts_of parameters) × (variables_from state 0 inner draft ≡ Ok (parameters, draft))) draft r → Checked (AreParameters state draft) draft r
+    given_by : (inner : Reading) {r : Result (List Bound × Draft) SyntaxFault} → Checked (λ parameters. All (λ sort. sort ≤ length state.sorts) (sorts_of parameters) × (variables_from state 0 inner draft ≡ Ok (parameters, draft))) draft r → Checked (AreParameters state draft) draft r
     given_by inner (checked is) = checked (record { bindings = inner; given = is.1; known = is.0 })
     given_by inner stopped = stopped

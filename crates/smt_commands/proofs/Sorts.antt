@@ -10,7 +10,7 @@ use Rattle.smt_names.specs.declared.syntax_fault.SyntaxFault.{SyntaxFault}
 use Rattle.smt_names.specs.Making.{Making, made, then_from, ◌>>=◌}
 use Rattle.smt_names.specs.Makes.{Refuses}
 use Rattle.smt_names.specs.Names.{State}
-use Rattle.smt_terms.specs.Meant.{Meant, Meaning, End, Token, Group, other_sort}
+use Rattle.smt_terms.specs.Reading.{Reading, Meaning, End, Token, Group, other_sort}
 use Rattle.smt_terms.specs.Machine.{weight}
 use Rattle.smt_commands.specs.Commands.{other_sorts}
 
@@ -22,7 +22,7 @@ pub sorts_begin : (so_far : List ℕ) (more : Result (List ℕ × Draft) SyntaxF
 sorts_begin so_far (Ok found) none = rw none refl
 sorts_begin so_far (Err fault) none = refl
 
-pub sorts_end : (state : State) (missing : Place) (trees : Meant) (so_far : List ℕ) (draft : Draft) → trees ≡ End → behind_sorts so_far (other_sorts state missing trees draft) ≡ Ok (so_far, draft)
+pub sorts_end : (state : State) (missing : Place) (trees : Reading) (so_far : List ℕ) (draft : Draft) → trees ≡ End → behind_sorts so_far (other_sorts state missing trees draft) ≡ Ok (so_far, draft)
 sorts_end state missing trees so_far draft is = rw is (ap (λ (sorts : List ℕ). Ok (sorts, draft)) (append-nil so_far))
 
 -- one sort, and then those of the trees behind it
@@ -38,19 +38,19 @@ module _ (first : Making ℕ) (whole rest : Making (List ℕ)) (means : (draft :
   sorts_refused stop.Memory so_far all draft same refused = tt {0}
   sorts_refused (stop.Refused fault) so_far all draft same refused = sym same ∙ ap (behind_sorts so_far) (means draft ∙ ap (then_from (λ (s : ℕ). rest >>= λ (sorts : List ℕ). made (s ∷ sorts))) refused)
 
-pub sorts_of_token : (state : State) (missing : Place) (trees rest : Meant) (w : Word) → trees ≡ Token w rest → (draft : Draft) → other_sorts state missing trees draft
+pub sorts_of_token : (state : State) (missing : Place) (trees rest : Reading) (w : Word) → trees ≡ Token w rest → (draft : Draft) → other_sorts state missing trees draft
     ≡ then_from (λ (sort : ℕ). other_sorts state missing rest >>= λ (sorts : List ℕ). made (sort ∷ sorts)) (other_sort state missing trees draft)
 sorts_of_token state missing trees rest w is draft = rw is refl
 
-pub sorts_of_list : (state : State) (missing : Place) (trees rest inner : Meant) (p : Word) (meaning : Meaning) → trees ≡ Group p meaning inner rest → (draft : Draft) → other_sorts state missing trees draft
+pub sorts_of_list : (state : State) (missing : Place) (trees rest inner : Reading) (p : Word) (meaning : Meaning) → trees ≡ Group p meaning inner rest → (draft : Draft) → other_sorts state missing trees draft
     ≡ then_from (λ (sort : ℕ). other_sorts state missing rest >>= λ (sorts : List ℕ). made (sort ∷ sorts)) (other_sort state missing trees draft)
 sorts_of_list state missing trees rest inner p meaning is draft = rw is refl
 
 -- less work is left behind a tree
-pub weighs_token : (words : List Word) (w : Word) (trees rest : Meant) → trees ≡ Token w rest → weight words rest < weight words trees
+pub weighs_token : (words : List Word) (w : Word) (trees rest : Reading) → trees ≡ Token w rest → weight words rest < weight words trees
 unfolding weight
 weighs_token words w trees rest is = rw is (omega arith)
 
-pub weighs_list : (words : List Word) (p : Word) (meaning : Meaning) (inner trees rest : Meant) → trees ≡ Group p meaning inner rest → weight words rest < weight words trees
+pub weighs_list : (words : List Word) (p : Word) (meaning : Meaning) (inner trees rest : Reading) → trees ≡ Group p meaning inner rest → weight words rest < weight words trees
 unfolding weight
 weighs_list words p meaning inner trees rest is = rw is (omega arith)

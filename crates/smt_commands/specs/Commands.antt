@@ -6,6 +6,7 @@ use Rattle.std.specs.List.{list_any}
 use Rattle.smt_text.specs.Word.{Word}
 use Rattle.smt_text.specs.Trees.{tree_of}
 use Rattle.smt_text.specs.declared.token.Place.{Place}
+use Rattle.graph_terms.specs.Terms.{most_args}
 use Rattle.formula_draft.specs.Draft.{Draft, empty_draft, finished}
 use Rattle.smt_names.specs.declared.value.Value.{Value}
 use Rattle.smt_names.specs.declared.bound.Bound.{Bound}
@@ -17,10 +18,10 @@ use Rattle.smt_names.specs.Making.{Making, made, ◌>>=◌, ◌>>◌, want, bad_
 use Rattle.smt_names.specs.Names.{State, Scope, Declared, with_sort, with_function, is_symbol}
 use Rattle.smt_names.specs.Names.{is_keyword, is_numeral, is_wide, number_of, new_function_name, new_sort_name}
 use Rattle.smt_names.specs.Names.{at_start, cleared, pushed, popped}
-use Rattle.smt_terms.specs.Meant.{Meant, Listed, End, Token, Group, from}
-use Rattle.smt_terms.specs.Meant.{first_place, no_more, at_most, at_least, exactly, token_first}
-use Rattle.smt_terms.specs.Meant.{list_first, sort_first, other_sort, bindings_after, no_binding}
-use Rattle.smt_terms.specs.Terms.{value, meant, variables_from}
+use Rattle.smt_terms.specs.Reading.{Reading, Listed, End, Token, Group, from}
+use Rattle.smt_terms.specs.Reading.{first_place, no_more, at_most, at_least, exactly, token_first}
+use Rattle.smt_terms.specs.Reading.{list_first, sort_first, other_sort, bindings_after, no_binding}
+use Rattle.smt_terms.specs.Terms.{value, reading, variables_from}
 use Rattle.smt_terms.specs.Scopes.{outside, inside_definition, sorts_of}
 use Rattle.smt_commands.specs.declared.command.Command.{Command}
 use Rattle.smt_commands.specs.declared.command.Command.TheVariants.{Silent, Unsupported, Assert, Push, Pop}
@@ -44,25 +45,25 @@ silent state = answer state Silent
 
 -- Parts of commands.
 -- a value of an option or an information: a token that is no keyword, or a list; it may be missing
-abbrev pub plain_value : Meant → Making (Unit {0})
+abbrev pub plain_value : Reading → Making (Unit {0})
 plain_value End = made tt
 plain_value (Token word trees) = want (not (is_keyword word.kind || is_wide word)) refusal.BadForm word.place
 plain_value (Group paren meaning inner trees) = made tt
 
-abbrev pub keyword_first : Place → Meant → Making Word
+abbrev pub keyword_first : Place → Reading → Making Word
 keyword_first head parts = do
   key ← token_first head parts
   want (is_keyword key.kind) refusal.BadForm key.place
   made key
 
-abbrev pub symbol_first : Place → Meant → Making Word
+abbrev pub symbol_first : Place → Reading → Making Word
 symbol_first head parts = do
   word ← token_first head parts
   want (is_symbol word.kind) refusal.BadForm word.place
   made word
 
 -- a numeral of at most 128 bits
-abbrev pub numeral_first : Place → Meant → Making ℕ
+abbrev pub numeral_first : Place → Reading → Making ℕ
 numeral_first head parts = do
   word ← token_first head parts
   want (is_numeral word.kind && not (is_wide word)) refusal.BadForm word.place
@@ -70,13 +71,13 @@ numeral_first head parts = do
 
 -- Commands.
 -- one symbol
-abbrev pub logic_form : Place → Meant → Making Word
+abbrev pub logic_form : Place → Reading → Making Word
 logic_form head parts = do
   exactly 1 head parts
   symbol_first head parts
 
 -- (set-logic s)
-abbrev pub set_logic : State → Place → Meant → Making Answer
+abbrev pub set_logic : State → Place → Reading → Making Answer
 set_logic state head parts = do
   logic_form head parts
   silent state
@@ -87,89 +88,89 @@ truth_named v =
     if bytes_eq v.text (codes "true") then made true else
     if bytes_eq v.text (codes "false") then made false else bad_form v.place
 
-abbrev pub truth_first : Place → Meant → Making Bool
+abbrev pub truth_first : Place → Reading → Making Bool
 truth_first head parts = do
   v ← symbol_first head parts
   truth_named v
 
 -- (set-option :print-success v)
-abbrev pub set_print_success : State → Place → Meant → Making Answer
+abbrev pub set_print_success : State → Place → Reading → Making Answer
 set_print_success state head parts = do
   prints ← truth_first head parts
   silent (record state { prints_success = prints })
 
 -- an option that is not supported
-abbrev pub set_other : State → Meant → Making Answer
+abbrev pub set_other : State → Reading → Making Answer
 set_other state parts = do
   plain_value parts
   answer state Unsupported
 
-abbrev pub set_by : State → Place → Meant → (is_success : Bool) → Making Answer
+abbrev pub set_by : State → Place → Reading → (is_success : Bool) → Making Answer
 set_by state head parts true = set_print_success state head parts
 set_by state head parts false = set_other state parts
 
 -- a keyword, and perhaps one part more
-abbrev pub one_or_two : Place → Meant → Making (Unit {0})
+abbrev pub one_or_two : Place → Reading → Making (Unit {0})
 one_or_two head parts = do
   at_least 1 head parts
   at_most 2 parts
 
-abbrev pub key_form : Place → Meant → Making Word
+abbrev pub key_form : Place → Reading → Making Word
 key_form head parts = do
   one_or_two head parts
   keyword_first head parts
 
 -- (set-option :k v)
-abbrev pub set_option : State → Place → Meant → Making Answer
+abbrev pub set_option : State → Place → Reading → Making Answer
 set_option state head parts = do
   key ← key_form head parts
   set_by state head (from 1 parts) (bytes_eq key.text (codes ":print-success"))
 
 -- a keyword, and perhaps its value
-abbrev pub info_form : Place → Meant → Making (Unit {0})
+abbrev pub info_form : Place → Reading → Making (Unit {0})
 info_form head parts = do
   key_form head parts
   plain_value (from 1 parts)
 
 -- (set-info :k v)
-abbrev pub set_info : State → Place → Meant → Making Answer
+abbrev pub set_info : State → Place → Reading → Making Answer
 set_info state head parts = do
   info_form head parts
   silent state
 
 -- the number of arguments of a sort, which must be 0
-abbrev pub no_arguments : Place → Meant → Making (Unit {0})
+abbrev pub no_arguments : Place → Reading → Making (Unit {0})
 no_arguments head parts = do
   n ← numeral_first head parts
   want (n == 0) refusal.NotInProfile (first_place head parts)
 
 -- the first part, which may be the name of a sort
-abbrev pub new_sort : State → Place → Meant → Making Word
+abbrev pub new_sort : State → Place → Reading → Making Word
 new_sort state head parts = do
   name ← token_first head parts
   new_sort_name state name
   made name
 
-abbrev pub plain_sort : State → Place → Meant → Making Word
+abbrev pub plain_sort : State → Place → Reading → Making Word
 plain_sort state head parts = do
   name ← new_sort state head parts
   no_arguments head (from 1 parts)
   made name
 
 -- a new name and 0
-abbrev pub sort_form : State → Place → Meant → Making Word
+abbrev pub sort_form : State → Place → Reading → Making Word
 sort_form state head parts = do
   exactly 2 head parts
   plain_sort state head parts
 
 -- (declare-sort s n)
-abbrev pub declare_sort : State → Place → Meant → Making Answer
+abbrev pub declare_sort : State → Place → Reading → Making Answer
 declare_sort state head parts = do
   name ← sort_form state head parts
   silent (with_sort name.text state)
 
 -- sorts other than Bool, to the end of a list
-abbrev pub other_sorts : State → Place → Meant → Making (List ℕ)
+abbrev pub other_sorts : State → Place → Reading → Making (List ℕ)
 other_sorts state paren End = made []
 other_sorts state paren (Token word trees) = do
   sort ← other_sort state paren (Token word trees)
@@ -184,52 +185,52 @@ abbrev pub signature : List ℕ → ℕ → Signature
 signature arguments sort = record { arguments = arguments; sort = sort }
 
 -- the first part, which may be the name of a function
-abbrev pub new_function : State → Place → Meant → Making Word
+abbrev pub new_function : State → Place → Reading → Making Word
 new_function state head parts = do
   name ← token_first head parts
   new_function_name state name
   made name
 
 -- so many parts, of which the first may be the name of a function
-abbrev pub named_form : ℕ → State → Place → Meant → Making Word
+abbrev pub named_form : ℕ → State → Place → Reading → Making Word
 named_form n state head parts = do
   exactly n head parts
   new_function state head parts
 
--- at most 255 sorts of arguments
+-- sorts of arguments, no more than an application may have
 abbrev pub argument_sorts : State → Listed → Making (List ℕ)
 argument_sorts state listed = do
-  no_more refusal.TooManyArguments (from 255 listed.inner)
+  no_more refusal.TooManyArguments (from most_args listed.inner)
   other_sorts state listed.paren.place listed.inner
 
 -- the list of the sorts of arguments that a first tree must be
-abbrev pub arguments_first : State → Place → Meant → Making (List ℕ)
+abbrev pub arguments_first : State → Place → Reading → Making (List ℕ)
 arguments_first state head parts = do
   listed ← list_first head parts
   argument_sorts state listed
 
 -- the sorts of a function: a list of those of its arguments, and behind it its own
-abbrev pub signature_first : State → Place → Meant → Making Signature
+abbrev pub signature_first : State → Place → Reading → Making Signature
 signature_first state head parts = do
   arguments ← arguments_first state head parts
   sort ← sort_first state head (from 1 parts)
   made (signature arguments sort)
 
 -- (declare-fun s (S1 .. Sn) S)
-abbrev pub declare_fun : State → Place → Meant → Making Answer
+abbrev pub declare_fun : State → Place → Reading → Making Answer
 declare_fun state head parts = do
   name ← named_form 3 state head parts
   sorts ← signature_first state head (from 1 parts)
   silent (with_function name.text sorts state)
 
 -- the sorts of a constant: its own, which a first tree must name
-abbrev pub constant_first : State → Place → Meant → Making Signature
+abbrev pub constant_first : State → Place → Reading → Making Signature
 constant_first state head parts = do
   sort ← sort_first state head parts
   made (signature [] sort)
 
 -- (declare-const s S)
-abbrev pub declare_const : State → Place → Meant → Making Answer
+abbrev pub declare_const : State → Place → Reading → Making Answer
 declare_const state head parts = do
   name ← named_form 2 state head parts
   sorts ← constant_first state head (from 1 parts)
@@ -248,39 +249,39 @@ defined state name parameters sort v draft = silent (record state {
       } ∷ [];
 }) draft
 
--- at most 255 bindings
-abbrev pub few_bindings : Meant → Making (Unit {0})
+-- bindings, no more than an application may have arguments
+abbrev pub few_bindings : Reading → Making (Unit {0})
 few_bindings trees = do
   bindings_after [] trees
-  no_binding refusal.TooManyArguments (from 255 trees)
+  no_binding refusal.TooManyArguments (from most_args trees)
 
-abbrev pub parameters_of : State → Meant → Making (List Bound)
+abbrev pub parameters_of : State → Reading → Making (List Bound)
 parameters_of state trees = do
   few_bindings trees
   variables_from state 0 trees
 
--- the list of parameters that a first tree must be, of which there are at most 255
-abbrev pub parameters_first : State → Place → Meant → Making (List Bound)
+-- the list of parameters that a first tree must be
+abbrev pub parameters_first : State → Place → Reading → Making (List Bound)
 parameters_first state head parts = do
   listed ← list_first head parts
   parameters_of state listed.inner
 
 -- the value of the first tree, which must have this sort
-abbrev pub sorted_value : Place → Scope → (sort : ℕ) → Meant → Making Value
+abbrev pub sorted_value : Place → Scope → (sort : ℕ) → Reading → Making Value
 sorted_value head scope sort parts = do
   v ← value head scope parts
   want (sort_of v == sort) refusal.WrongSort (first_place head parts)
   made v
 
 -- what is defined of these parameters
-abbrev pub defined_by : State → Place → (name : List ℕ) → List Bound → (sorted given : Meant) → Making Answer
+abbrev pub defined_by : State → Place → (name : List ℕ) → List Bound → (sorted given : Reading) → Making Answer
 defined_by state head name parameters sorted given = do
   sort ← sort_first state head sorted
   v ← sorted_value head (inside_definition state parameters) sort given
   defined state name parameters sort v
 
 -- (define-fun s ((x1 S1) ..) S t)
-abbrev pub define_fun : State → Place → Meant → Making Answer
+abbrev pub define_fun : State → Place → Reading → Making Answer
 define_fun state head parts = do
   name ← named_form 4 state head parts
   parameters ← parameters_first state head (from 1 parts)
@@ -289,51 +290,51 @@ define_fun state head parts = do
 abbrev pub asserted : State → Value → Making Answer
 asserted state v draft = answer state (Assert (finished draft (self v))) draft
 
-abbrev pub asserted_term : State → Place → Meant → Making Answer
+abbrev pub asserted_term : State → Place → Reading → Making Answer
 asserted_term state head parts = do
   v ← sorted_value head (outside state) 0 parts
   asserted state v
 
 -- (assert t): its sort is Bool
-abbrev pub assert_truth : State → Place → Meant → Making Answer
+abbrev pub assert_truth : State → Place → Reading → Making Answer
 assert_truth state head parts = do
   exactly 1 head parts
   asserted_term state head parts
 
 -- how many levels are asked for, 1 where no number stands
-abbrev pub levels_asked : Place → Meant → Making ℕ
+abbrev pub levels_asked : Place → Reading → Making ℕ
 levels_asked head End = made 1
 levels_asked head (Token word trees) = numeral_first head (Token word trees)
 levels_asked head (Group paren meaning inner trees) = bad_form paren.place
 
 -- at most one part, how many levels are asked for
-abbrev pub level_form : Place → Meant → Making ℕ
+abbrev pub level_form : Place → Reading → Making ℕ
 level_form head parts = do
   at_most 1 parts
   levels_asked head parts
 
 -- as many levels as may be opened
-abbrev pub push_form : State → Place → Meant → Making ℕ
+abbrev pub push_form : State → Place → Reading → Making ℕ
 push_form state head parts = do
   n ← level_form head parts
   want (nat_le (length state.levels + n) state.limits.levels) refusal.LevelsFull (first_place head parts)
   made n
 
 -- (push n)
-abbrev pub push_levels : State → Place → Meant → Making Answer
+abbrev pub push_levels : State → Place → Reading → Making Answer
 push_levels state head parts = do
   n ← push_form state head parts
   answer (pushed n state) (Push n)
 
 -- as many levels as may be closed
-abbrev pub pop_form : State → Place → Meant → Making ℕ
+abbrev pub pop_form : State → Place → Reading → Making ℕ
 pop_form state head parts = do
   n ← level_form head parts
   want (nat_le n (length state.levels)) refusal.PopTooFar (first_place head parts)
   made n
 
 -- (pop n)
-abbrev pub pop_levels : State → Place → Meant → Making Answer
+abbrev pub pop_levels : State → Place → Reading → Making Answer
 pop_levels state head parts = do
   n ← pop_form state head parts
   answer (popped n state) (Pop n)
@@ -348,19 +349,19 @@ info_of key =
     if bytes_eq key (codes ":reason-unknown") then info.ReasonUnknown else info.Other
 
 -- one keyword
-abbrev pub asked_form : Place → Meant → Making Word
+abbrev pub asked_form : Place → Reading → Making Word
 asked_form head parts = do
   exactly 1 head parts
   keyword_first head parts
 
 -- (get-info :k)
-abbrev pub get_info : State → Place → Meant → Making Answer
+abbrev pub get_info : State → Place → Reading → Making Answer
 get_info state head parts = do
   key ← asked_form head parts
   answer state (GetInfo (info_of key.text))
 
 -- a command without parts
-abbrev pub alone : Command → State → Meant → Making Answer
+abbrev pub alone : Command → State → Reading → Making Answer
 alone command state parts = do
   at_most 0 parts
   answer state command
@@ -412,7 +413,7 @@ unfoldable pub command_named : List ℕ → Named
 command_named name = named_so name
 
 -- one line for each command
-abbrev pub headed : State → Place → Meant → Named → Making Answer
+abbrev pub headed : State → Place → Reading → Named → Making Answer
 headed state head parts named.SetLogic = set_logic state head parts
 headed state head parts named.SetOption = set_option state head parts
 headed state head parts named.SetInfo = set_info state head parts
@@ -433,7 +434,7 @@ headed state head parts named.Foreign = not_in_profile head
 headed state head parts named.Unknown = bad_form head
 
 -- a command is a list whose first tree is a symbol
-abbrev pub command_of : State → Place → Meant → Making Answer
+abbrev pub command_of : State → Place → Reading → Making Answer
 command_of state paren End = bad_form paren
 command_of state paren (Group inner meaning parts trees) = bad_form inner.place
 command_of state paren (Token head parts) = cond (is_symbol head.kind)
@@ -448,7 +449,7 @@ symbol_name state symbol = cond (nat_le 2 symbol) (option_map (λ (f : Declared)
 abbrev pub start : Place
 start = record { line = 1; column = 1 }
 
-abbrev pub command_at : State → Meant → Making Answer
+abbrev pub command_at : State → Reading → Making Answer
 command_at state (Group paren meaning inner after) = command_of state paren.place inner
 command_at state (Token word after) = bad_form word.place
 command_at state End = bad_form start
@@ -463,4 +464,4 @@ begun state making = without_draft (making (empty_draft state.limits.terms state
 
 -- What a command, a list of tokens, answers in a state, or its first refusal.
 unfoldable pub elaborate : State → List Word → Result Answer SyntaxFault
-elaborate state words = begun state (command_at state (meant (tree_of words)))
+elaborate state words = begun state (command_at state (reading (tree_of words)))

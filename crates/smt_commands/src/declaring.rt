@@ -4,7 +4,7 @@ ghost use Rattle.smt_names.specs.Makes.{Checks};
 ghost use Rattle.smt_names.specs.Names.{head_of, sort_number};
 ghost use Rattle.smt_names.specs.declared.head.Head.TheVariants.{Unknown};
 ghost use Rattle.smt_terms.specs.Checks.{ChecksAs};
-ghost use Rattle.smt_terms.specs.Cursor.{here, word_at};
+ghost use Rattle.smt_terms.specs.Cursor.{trees_from, word_at};
 ghost use Rattle.smt_commands.specs.Answers.{Answers};
 ghost use Rattle.smt_commands.specs.Commands.{begun, constant_first, declare_const, declare_fun, declare_sort, named_form, plain_sort, set_option, set_other, set_print_success, sort_form, truth_first, truth_named};
 
@@ -43,12 +43,10 @@ fn truth_of(alloc: Global, tree: &Tree, i: u32) -> Result<bool, Stop>
 
 /// A truth value must come next.
 fn truth_at(alloc: Global, tree: &Tree, i: u32, missing: Place) -> Result<bool, Stop>
-    ensures { Checks result (truth_first missing (here tree.now i)) }
+    ensures { Checks result (truth_first missing (trees_from tree.now i)) }
 {
-    match check_symbol(alloc, tree, i, missing) {
-        Err(stop) => Err(stop),
-        Ok(()) => truth_of(alloc, tree, i),
-    }
+    check_symbol(alloc, tree, i, missing)?;
+    truth_of(alloc, tree, i)
 }
 
 /// Whether success is printed is set.
@@ -59,26 +57,20 @@ fn set_print_success(
     i: u32,
     head: Place,
 ) -> Result<Command, Stop>
-    ensures answer { Answers result state.new (begun state.old (set_print_success state.old head (here tree.now i))) }
+    ensures answer { Answers result state.new (begun state.old (set_print_success state.old head (trees_from tree.now i))) }
     ensures err { OnErr result (state.new ≡ state.old) }
 {
-    match truth_at(alloc, tree, i, head) {
-        Err(stop) => Err(stop),
-        Ok(prints) => {
-            state.set_prints_success(prints);
-            Ok(Command::Silent)
-        }
-    }
+    let prints = truth_at(alloc, tree, i, head)?;
+    state.set_prints_success(prints);
+    Ok(Command::Silent)
 }
 
 /// An option that is not supported is set.
 fn set_other(alloc: Global, state: &SessionState, tree: &Tree, i: u32) -> Result<Command, Stop>
-    ensures { Answers result state.now (begun state.now (set_other state.now (here tree.now i))) }
+    ensures { Answers result state.now (begun state.now (set_other state.now (trees_from tree.now i))) }
 {
-    match check_plain_value(alloc, tree, i) {
-        Err(stop) => Err(stop),
-        Ok(()) => Ok(Command::Unsupported),
-    }
+    check_plain_value(alloc, tree, i)?;
+    Ok(Command::Unsupported)
 }
 
 /// An option is set.
@@ -89,19 +81,15 @@ pub(crate) fn set_option(
     i: u32,
     head: Place,
 ) -> Result<Command, Stop>
-    ensures answer { Answers result state.new (begun state.old (set_option state.old head (here tree.now i))) }
+    ensures answer { Answers result state.new (begun state.old (set_option state.old head (trees_from tree.now i))) }
     ensures err { OnErr result (state.new ≡ state.old) }
 {
-    match check_key(alloc, tree, i, head) {
-        Err(stop) => Err(stop),
-        Ok(()) => {
-            let value = behind_one(tree, i);
-            if is_success_key(tree, i) {
-                set_print_success(alloc, state, tree, value, head)
-            } else {
-                set_other(alloc, state, tree, value)
-            }
-        }
+    check_key(alloc, tree, i, head)?;
+    let value = behind_one(tree, i);
+    if is_success_key(tree, i) {
+        set_print_success(alloc, state, tree, value, head)
+    } else {
+        set_other(alloc, state, tree, value)
     }
 }
 
@@ -113,13 +101,11 @@ fn check_plain_sort(
     i: u32,
     head: Place,
 ) -> Result<(), Stop>
-    ensures check { ChecksAs result (word_at tree.now i) (plain_sort state.now head (here tree.now i)) }
+    ensures check { ChecksAs result (word_at tree.now i) (plain_sort state.now head (trees_from tree.now i)) }
     ensures new { OnOk result (sort_number state.now (word_at tree.now i).text ≡ None) }
 {
-    match check_new_sort(alloc, state, tree, i, head) {
-        Err(stop) => Err(stop),
-        Ok(()) => check_no_arguments(alloc, tree, behind_one(tree, i), head),
-    }
+    check_new_sort(alloc, state, tree, i, head)?;
+    check_no_arguments(alloc, tree, behind_one(tree, i), head)
 }
 
 /// A new name of a sort, and 0.
@@ -130,13 +116,11 @@ fn check_sort(
     i: u32,
     head: Place,
 ) -> Result<(), Stop>
-    ensures check { ChecksAs result (word_at tree.now i) (sort_form state.now head (here tree.now i)) }
+    ensures check { ChecksAs result (word_at tree.now i) (sort_form state.now head (trees_from tree.now i)) }
     ensures new { OnOk result (sort_number state.now (word_at tree.now i).text ≡ None) }
 {
-    match check_exactly(alloc, tree, i, 2, head) {
-        Err(stop) => Err(stop),
-        Ok(()) => check_plain_sort(alloc, state, tree, i, head),
-    }
+    check_exactly(alloc, tree, i, 2, head)?;
+    check_plain_sort(alloc, state, tree, i, head)
 }
 
 /// A sort is declared.
@@ -147,16 +131,12 @@ pub(crate) fn declare_sort(
     i: u32,
     head: Place,
 ) -> Result<Command, Stop>
-    ensures answer { Answers result state.new (begun state.old (declare_sort state.old head (here tree.now i))) }
+    ensures answer { Answers result state.new (begun state.old (declare_sort state.old head (trees_from tree.now i))) }
     ensures err { OnErr result (state.new ≡ state.old) }
 {
-    match check_sort(alloc, state, tree, i, head) {
-        Err(stop) => Err(stop),
-        Ok(()) => match state.declare_sort(text_at(tree, i)) {
-            Err(_) => Err(Stop::Memory),
-            Ok(()) => Ok(Command::Silent),
-        },
-    }
+    check_sort(alloc, state, tree, i, head)?;
+    state.declare_sort(text_at(tree, i))?;
+    Ok(Command::Silent)
 }
 
 /// So many parts, and first a new name of a function.
@@ -168,13 +148,11 @@ pub(crate) fn check_named(
     count: u32,
     head: Place,
 ) -> Result<(), Stop>
-    ensures check { ChecksAs result (word_at tree.now i) (named_form count state.now head (here tree.now i)) }
+    ensures check { ChecksAs result (word_at tree.now i) (named_form count state.now head (trees_from tree.now i)) }
     ensures new { OnOk result (head_of state.now (word_at tree.now i).text ≡ Unknown) }
 {
-    match check_exactly(alloc, tree, i, count, head) {
-        Err(stop) => Err(stop),
-        Ok(()) => check_new_function(alloc, state, tree, i, head),
-    }
+    check_exactly(alloc, tree, i, count, head)?;
+    check_new_function(alloc, state, tree, i, head)
 }
 
 /// A function is declared.
@@ -185,19 +163,13 @@ pub(crate) fn declare_fun(
     i: u32,
     head: Place,
 ) -> Result<Command, Stop>
-    ensures answer { Answers result state.new (begun state.old (declare_fun state.old head (here tree.now i))) }
+    ensures answer { Answers result state.new (begun state.old (declare_fun state.old head (trees_from tree.now i))) }
     ensures err { OnErr result (state.new ≡ state.old) }
 {
-    match check_named(alloc, state, tree, i, 3, head) {
-        Err(stop) => Err(stop),
-        Ok(()) => match signature_at(alloc, state, tree, behind_one(tree, i), head) {
-            Err(stop) => Err(stop),
-            Ok(sorts) => match state.declare_function(text_at(tree, i), sorts) {
-                Err(_) => Err(Stop::Memory),
-                Ok(()) => Ok(Command::Silent),
-            },
-        },
-    }
+    check_named(alloc, state, tree, i, 3, head)?;
+    let sorts = signature_at(alloc, state, tree, behind_one(tree, i), head)?;
+    state.declare_function(text_at(tree, i), sorts)?;
+    Ok(Command::Silent)
 }
 
 /// The sorts of a constant must come next.
@@ -208,15 +180,11 @@ fn constant_at(
     i: u32,
     missing: Place,
 ) -> Result<Signature, Stop>
-    ensures { Checks result (constant_first state.now missing (here tree.now i)) }
+    ensures { Checks result (constant_first state.now missing (trees_from tree.now i)) }
 {
-    match sort_at(alloc, state, tree, i, missing) {
-        Err(stop) => Err(stop),
-        Ok(sort) => {
-            let arguments = Numbers::from_slice(alloc, &[])?;
-            Ok(Signature { arguments, sort })
-        }
-    }
+    let sort = sort_at(alloc, state, tree, i, missing)?;
+    let arguments = Numbers::from_slice(alloc, &[])?;
+    Ok(Signature { arguments, sort })
 }
 
 /// A constant is declared.
@@ -227,17 +195,11 @@ pub(crate) fn declare_const(
     i: u32,
     head: Place,
 ) -> Result<Command, Stop>
-    ensures answer { Answers result state.new (begun state.old (declare_const state.old head (here tree.now i))) }
+    ensures answer { Answers result state.new (begun state.old (declare_const state.old head (trees_from tree.now i))) }
     ensures err { OnErr result (state.new ≡ state.old) }
 {
-    match check_named(alloc, state, tree, i, 2, head) {
-        Err(stop) => Err(stop),
-        Ok(()) => match constant_at(alloc, state, tree, behind_one(tree, i), head) {
-            Err(stop) => Err(stop),
-            Ok(sorts) => match state.declare_function(text_at(tree, i), sorts) {
-                Err(_) => Err(Stop::Memory),
-                Ok(()) => Ok(Command::Silent),
-            },
-        },
-    }
+    check_named(alloc, state, tree, i, 2, head)?;
+    let sorts = constant_at(alloc, state, tree, behind_one(tree, i), head)?;
+    state.declare_function(text_at(tree, i), sorts)?;
+    Ok(Command::Silent)
 }

@@ -2,7 +2,7 @@
 ghost use Rattle.std.specs.Prelude.{◌≡◌, ◌+◌, ◌≤◌, nat_le, length, IfOk, OnErr};
 ghost use Rattle.smt_names.specs.Makes.{Checks};
 ghost use Rattle.smt_names.specs.Names.{at_start, cleared};
-ghost use Rattle.smt_terms.specs.Cursor.{here};
+ghost use Rattle.smt_terms.specs.Cursor.{trees_from};
 ghost use Rattle.smt_commands.specs.declared.command.Command.TheVariants.{Reset, ResetAssertions};
 ghost use Rattle.smt_commands.specs.Answers.{Answers};
 ghost use Rattle.smt_commands.specs.Commands.{alone, begun, level_form, levels_asked, pop_form, pop_levels, push_form, push_levels};
@@ -16,7 +16,7 @@ use std::alloc::Global;
 
 /// How many levels are asked for: the number that comes next, or 1.
 fn levels_asked_at(alloc: Global, tree: &Tree, i: u32, head: Place) -> Result<u128, Stop>
-    ensures { Checks result (levels_asked head (here tree.now i)) }
+    ensures { Checks result (levels_asked head (trees_from tree.now i)) }
 {
     match look(tree, i) {
         Seen::End => Ok(1),
@@ -27,12 +27,10 @@ fn levels_asked_at(alloc: Global, tree: &Tree, i: u32, head: Place) -> Result<u1
 
 /// How many levels are asked for, in at most one part.
 fn level_count_at(alloc: Global, tree: &Tree, i: u32, head: Place) -> Result<u128, Stop>
-    ensures { Checks result (level_form head (here tree.now i)) }
+    ensures { Checks result (level_form head (trees_from tree.now i)) }
 {
-    match check_at_most(alloc, tree, i, 1) {
-        Err(stop) => Err(stop),
-        Ok(()) => levels_asked_at(alloc, tree, i, head),
-    }
+    check_at_most(alloc, tree, i, 1)?;
+    levels_asked_at(alloc, tree, i, head)
 }
 
 /// Whether so many levels more may be open.
@@ -52,20 +50,16 @@ fn push_count_at(
     i: u32,
     head: Place,
 ) -> Result<u32, Stop>
-    ensures form { Checks result (push_form state.now head (here tree.now i)) }
+    ensures form { Checks result (push_form state.now head (trees_from tree.now i)) }
     ensures room { IfOk result (λ n. length state.now.levels + n ≤ state.now.limits.levels) }
 {
     let _most = state.limits();
-    match level_count_at(alloc, tree, i, head) {
-        Err(stop) => Err(stop),
-        Ok(count) => {
-            if has_room(state, count) {
-                Ok(count as u32)
-            } else {
-                let place = first_place_at(tree, i, head);
-                Err(Stop::at(alloc, Refusal::LevelsFull, place))
-            }
-        }
+    let count = level_count_at(alloc, tree, i, head)?;
+    if has_room(state, count) {
+        Ok(count as u32)
+    } else {
+        let place = first_place_at(tree, i, head);
+        Err(Stop::at(alloc, Refusal::LevelsFull, place))
     }
 }
 
@@ -77,16 +71,12 @@ pub(crate) fn push_levels(
     i: u32,
     head: Place,
 ) -> Result<Command, Stop>
-    ensures answer { Answers result state.new (begun state.old (push_levels state.old head (here tree.now i))) }
+    ensures answer { Answers result state.new (begun state.old (push_levels state.old head (trees_from tree.now i))) }
     ensures err { OnErr result (state.new ≡ state.old) }
 {
-    match push_count_at(alloc, state, tree, i, head) {
-        Err(stop) => Err(stop),
-        Ok(count) => match state.push(count) {
-            Err(_) => Err(Stop::Memory),
-            Ok(()) => Ok(Command::Push { count }),
-        },
-    }
+    let count = push_count_at(alloc, state, tree, i, head)?;
+    state.push(count)?;
+    Ok(Command::Push { count })
 }
 
 /// Whether so many levels are open.
@@ -104,20 +94,16 @@ fn pop_count_at(
     i: u32,
     head: Place,
 ) -> Result<u32, Stop>
-    ensures form { Checks result (pop_form state.now head (here tree.now i)) }
+    ensures form { Checks result (pop_form state.now head (trees_from tree.now i)) }
     ensures open { IfOk result (λ n. n ≤ length state.now.levels) }
 {
     let _open = state.levels();
-    match level_count_at(alloc, tree, i, head) {
-        Err(stop) => Err(stop),
-        Ok(count) => {
-            if are_open(state, count) {
-                Ok(count as u32)
-            } else {
-                let place = first_place_at(tree, i, head);
-                Err(Stop::at(alloc, Refusal::PopTooFar, place))
-            }
-        }
+    let count = level_count_at(alloc, tree, i, head)?;
+    if are_open(state, count) {
+        Ok(count as u32)
+    } else {
+        let place = first_place_at(tree, i, head);
+        Err(Stop::at(alloc, Refusal::PopTooFar, place))
     }
 }
 
@@ -129,16 +115,12 @@ pub(crate) fn pop_levels(
     i: u32,
     head: Place,
 ) -> Result<Command, Stop>
-    ensures answer { Answers result state.new (begun state.old (pop_levels state.old head (here tree.now i))) }
+    ensures answer { Answers result state.new (begun state.old (pop_levels state.old head (trees_from tree.now i))) }
     ensures err { OnErr result (state.new ≡ state.old) }
 {
-    match pop_count_at(alloc, state, tree, i, head) {
-        Err(stop) => Err(stop),
-        Ok(count) => {
-            state.pop(count);
-            Ok(Command::Pop { count })
-        }
-    }
+    let count = pop_count_at(alloc, state, tree, i, head)?;
+    state.pop(count);
+    Ok(Command::Pop { count })
 }
 
 /// All is as at the start.
@@ -148,16 +130,12 @@ pub(crate) fn reset(
     tree: &Tree,
     i: u32,
 ) -> Result<Command, Stop>
-    ensures answer { Answers result state.new (begun state.old (alone Reset (at_start state.old.limits) (here tree.now i))) }
+    ensures answer { Answers result state.new (begun state.old (alone Reset (at_start state.old.limits) (trees_from tree.now i))) }
     ensures err { OnErr result (state.new ≡ state.old) }
 {
-    match check_at_most(alloc, tree, i, 0) {
-        Err(stop) => Err(stop),
-        Ok(()) => {
-            state.reset();
-            Ok(Command::Reset)
-        }
-    }
+    check_at_most(alloc, tree, i, 0)?;
+    state.reset();
+    Ok(Command::Reset)
 }
 
 /// No assertions, declarations and levels stand any more.
@@ -167,14 +145,10 @@ pub(crate) fn reset_assertions(
     tree: &Tree,
     i: u32,
 ) -> Result<Command, Stop>
-    ensures answer { Answers result state.new (begun state.old (alone ResetAssertions (cleared state.old) (here tree.now i))) }
+    ensures answer { Answers result state.new (begun state.old (alone ResetAssertions (cleared state.old) (trees_from tree.now i))) }
     ensures err { OnErr result (state.new ≡ state.old) }
 {
-    match check_at_most(alloc, tree, i, 0) {
-        Err(stop) => Err(stop),
-        Ok(()) => {
-            state.clear();
-            Ok(Command::ResetAssertions)
-        }
-    }
+    check_at_most(alloc, tree, i, 0)?;
+    state.clear();
+    Ok(Command::ResetAssertions)
 }

@@ -3,12 +3,12 @@ ghost use Rattle.std.specs.Prelude.{◌≡◌, IfOk};
 ghost use Rattle.smt_names.specs.Makes.{Checks};
 ghost use Rattle.smt_terms.specs.Terms.{variables_from};
 ghost use Rattle.smt_terms.specs.Scopes.{sort_of_stands, sorts_of};
-ghost use Rattle.smt_terms.specs.Cursor.{here};
+ghost use Rattle.smt_terms.specs.Cursor.{trees_from};
 ghost use Rattle.smt_commands.specs.Commands.{few_bindings, parameters_first, parameters_of};
 ghost use Rattle.smt_commands.specs.Parameters.{HasParameters};
 
 use crate::parts::check_list;
-use graph_terms::{Memory, Numbers};
+use graph_terms::{MOST_ARGS, Memory, Numbers};
 use smt_names::{Bound, BoundNames, Refusal, SessionState, Stands, Stop};
 use smt_terms::{bind_all, check_few_bindings, check_names, variables_at};
 use smt_text::{Place, Tree};
@@ -21,14 +21,12 @@ pub(crate) struct Parameters {
     pub(crate) sorts: Numbers,
 }
 
-/// At most 255 bindings come next, to the end of the list.
+/// At most `MOST_ARGS` bindings come next, to the end of the list.
 fn check_parameters(alloc: Global, tree: &Tree, i: u32) -> Result<(), Stop>
-    ensures { Checks result (few_bindings (here tree.now i)) }
+    ensures { Checks result (few_bindings (trees_from tree.now i)) }
 {
-    match check_names(alloc, tree, i) {
-        Err(stop) => Err(stop),
-        Ok(()) => check_few_bindings(alloc, tree, i, 255, Refusal::TooManyArguments),
-    }
+    check_names(alloc, tree, i)?;
+    check_few_bindings(alloc, tree, i, MOST_ARGS, Refusal::TooManyArguments)
 }
 
 /// The sort of what a bound name stands for.
@@ -70,15 +68,11 @@ fn read_parameters(
     tree: &Tree,
     i: u32,
 ) -> Result<Parameters, Stop>
-    ensures { HasParameters result (variables_from state.now 0 (here tree.now i)) }
+    ensures { HasParameters result (variables_from state.now 0 (trees_from tree.now i)) }
 {
-    match variables_at(alloc, state, tree, i) {
-        Err(stop) => Err(stop),
-        Ok(variables) => {
-            let parameters = with_sorts(alloc, variables.as_slice())?;
-            Ok(parameters)
-        }
-    }
+    let variables = variables_at(alloc, state, tree, i)?;
+    let parameters = with_sorts(alloc, variables.as_slice())?;
+    Ok(parameters)
 }
 
 /// The parameters that come next, to the end of the list.
@@ -88,12 +82,10 @@ fn parameters_of(
     tree: &Tree,
     i: u32,
 ) -> Result<Parameters, Stop>
-    ensures { HasParameters result (parameters_of state.now (here tree.now i)) }
+    ensures { HasParameters result (parameters_of state.now (trees_from tree.now i)) }
 {
-    match check_parameters(alloc, tree, i) {
-        Err(stop) => Err(stop),
-        Ok(()) => read_parameters(alloc, state, tree, i),
-    }
+    check_parameters(alloc, tree, i)?;
+    read_parameters(alloc, state, tree, i)
 }
 
 /// A list of parameters must come next.
@@ -104,10 +96,8 @@ pub(crate) fn parameters_at(
     i: u32,
     missing: Place,
 ) -> Result<Parameters, Stop>
-    ensures { HasParameters result (parameters_first state.now missing (here tree.now i)) }
+    ensures { HasParameters result (parameters_first state.now missing (trees_from tree.now i)) }
 {
-    match check_list(alloc, tree, i, missing) {
-        Err(stop) => Err(stop),
-        Ok(inner) => parameters_of(alloc, state, tree, inner),
-    }
+    let inner = check_list(alloc, tree, i, missing)?;
+    parameters_of(alloc, state, tree, inner)
 }

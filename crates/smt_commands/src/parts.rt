@@ -4,14 +4,14 @@ ghost use Rattle.smt_names.specs.Names.{is_keyword, is_wide as wide, head_of, ne
 ghost use Rattle.smt_names.specs.Makes.{Checks, MakesItems};
 ghost use Rattle.formula_draft.specs.Draft.{Draft};
 ghost use Rattle.smt_terms.specs.Checks.{ChecksAs};
-ghost use Rattle.smt_terms.specs.Cursor.{here, word_at};
-ghost use Rattle.smt_terms.specs.Meant.{first_place, list_first, sort_first, token_first};
+ghost use Rattle.smt_terms.specs.Cursor.{trees_from, word_at};
+ghost use Rattle.smt_terms.specs.Reading.{first_place, list_first, sort_first, token_first};
 ghost use Rattle.smt_text.specs.Word.{Word};
 ghost use Rattle.smt_names.specs.declared.head.Head.TheVariants.{Unknown};
 ghost use Rattle.smt_commands.specs.Answers.{HasList};
 ghost use Rattle.smt_commands.specs.Commands.{argument_sorts, arguments_first, keyword_first, new_function, new_sort, no_arguments, numeral_first, other_sorts, plain_value, signature_first, symbol_first};
 
-use graph_terms::Numbers;
+use graph_terms::{MOST_ARGS, Numbers};
 use smt_names::{Refusal, SessionState, Signature, Stop, is_keyword, is_numeral, is_symbol};
 use smt_terms::{
     Seen, behind_one, behind_some, check_no_more, is_wide, kind_at, look, number_of, other_sort_at,
@@ -22,7 +22,7 @@ use std::alloc::Global;
 
 /// The place of the tree that comes next, and this one where none does.
 pub(crate) fn first_place_at(tree: &Tree, i: u32, none: Place) -> Place
-    ensures { result ≡ first_place none (here tree.now i) }
+    ensures { result ≡ first_place none (trees_from tree.now i) }
 {
     match look(tree, i) {
         Seen::End => none,
@@ -33,7 +33,7 @@ pub(crate) fn first_place_at(tree: &Tree, i: u32, none: Place) -> Place
 
 /// A token must come next.
 pub(crate) fn check_token(alloc: Global, tree: &Tree, i: u32, missing: Place) -> Result<(), Stop>
-    ensures { ChecksAs result (word_at tree.now i) (token_first missing (here tree.now i)) }
+    ensures { ChecksAs result (word_at tree.now i) (token_first missing (trees_from tree.now i)) }
 {
     match look(tree, i) {
         Seen::End => Err(Stop::at(alloc, Refusal::BadForm, missing)),
@@ -44,7 +44,7 @@ pub(crate) fn check_token(alloc: Global, tree: &Tree, i: u32, missing: Place) ->
 
 /// A list must come next: the place of what is in it.
 pub(crate) fn check_list(alloc: Global, tree: &Tree, i: u32, missing: Place) -> Result<u32, Stop>
-    ensures { HasList tree.now i result (list_first missing (here tree.now i)) }
+    ensures { HasList tree.now i result (list_first missing (trees_from tree.now i)) }
 {
     match look(tree, i) {
         Seen::End => Err(Stop::at(alloc, Refusal::BadForm, missing)),
@@ -55,7 +55,7 @@ pub(crate) fn check_list(alloc: Global, tree: &Tree, i: u32, missing: Place) -> 
 
 /// A keyword must come next.
 pub(crate) fn check_keyword(alloc: Global, tree: &Tree, i: u32, missing: Place) -> Result<(), Stop>
-    ensures { ChecksAs result (word_at tree.now i) (keyword_first missing (here tree.now i)) }
+    ensures { ChecksAs result (word_at tree.now i) (keyword_first missing (trees_from tree.now i)) }
 {
     check_token(alloc, tree, i, missing)?;
     if is_keyword(kind_at(tree, i)) {
@@ -67,7 +67,7 @@ pub(crate) fn check_keyword(alloc: Global, tree: &Tree, i: u32, missing: Place) 
 
 /// A symbol must come next.
 pub(crate) fn check_symbol(alloc: Global, tree: &Tree, i: u32, missing: Place) -> Result<(), Stop>
-    ensures { ChecksAs result (word_at tree.now i) (symbol_first missing (here tree.now i)) }
+    ensures { ChecksAs result (word_at tree.now i) (symbol_first missing (trees_from tree.now i)) }
 {
     check_token(alloc, tree, i, missing)?;
     if is_symbol(kind_at(tree, i)) {
@@ -86,7 +86,7 @@ fn is_wide_at(tree: &Tree, i: u32) -> bool
 
 /// A numeral of at most 128 bits must come next: its number.
 pub(crate) fn numeral_at(alloc: Global, tree: &Tree, i: u32, missing: Place) -> Result<u128, Stop>
-    ensures { Checks result (numeral_first missing (here tree.now i)) }
+    ensures { Checks result (numeral_first missing (trees_from tree.now i)) }
 {
     check_token(alloc, tree, i, missing)?;
     if !is_numeral(kind_at(tree, i)) {
@@ -108,7 +108,7 @@ fn is_plain(tree: &Tree, i: u32) -> bool
 
 /// The value of an option or an information may come next.
 pub(crate) fn check_plain_value(alloc: Global, tree: &Tree, i: u32) -> Result<(), Stop>
-    ensures { Checks result (plain_value (here tree.now i)) }
+    ensures { Checks result (plain_value (trees_from tree.now i)) }
 {
     match look(tree, i) {
         Seen::End => Ok(()),
@@ -130,18 +130,14 @@ pub(crate) fn check_no_arguments(
     i: u32,
     missing: Place,
 ) -> Result<(), Stop>
-    ensures { Checks result (no_arguments missing (here tree.now i)) }
+    ensures { Checks result (no_arguments missing (trees_from tree.now i)) }
 {
-    match numeral_at(alloc, tree, i, missing) {
-        Err(stop) => Err(stop),
-        Ok(count) => {
-            if count == 0 {
-                Ok(())
-            } else {
-                let place = first_place_at(tree, i, missing);
-                Err(Stop::at(alloc, Refusal::NotInProfile, place))
-            }
-        }
+    let count = numeral_at(alloc, tree, i, missing)?;
+    if count == 0 {
+        Ok(())
+    } else {
+        let place = first_place_at(tree, i, missing);
+        Err(Stop::at(alloc, Refusal::NotInProfile, place))
     }
 }
 
@@ -153,7 +149,7 @@ pub(crate) fn sort_at(
     i: u32,
     missing: Place,
 ) -> Result<u32, Stop>
-    ensures { Checks result (sort_first state.now missing (here tree.now i)) }
+    ensures { Checks result (sort_first state.now missing (trees_from tree.now i)) }
 {
     match look(tree, i) {
         Seen::End => Err(Stop::at(alloc, Refusal::BadForm, missing)),
@@ -178,7 +174,7 @@ pub(crate) fn check_new_sort(
     i: u32,
     missing: Place,
 ) -> Result<(), Stop>
-    ensures check { ChecksAs result (word_at tree.now i) (new_sort state.now missing (here tree.now i)) }
+    ensures check { ChecksAs result (word_at tree.now i) (new_sort state.now missing (trees_from tree.now i)) }
     ensures new { OnOk result (sort_number state.now (word_at tree.now i).text ≡ None) }
 {
     check_token(alloc, tree, i, missing)?;
@@ -202,7 +198,7 @@ pub(crate) fn check_new_function(
     i: u32,
     missing: Place,
 ) -> Result<(), Stop>
-    ensures check { ChecksAs result (word_at tree.now i) (new_function state.now missing (here tree.now i)) }
+    ensures check { ChecksAs result (word_at tree.now i) (new_function state.now missing (trees_from tree.now i)) }
     ensures new { OnOk result (head_of state.now (word_at tree.now i).text ≡ Unknown) }
 {
     check_token(alloc, tree, i, missing)?;
@@ -218,7 +214,7 @@ fn other_sorts_at(
     i: u32,
     missing: Place,
 ) -> Result<Vec<u32>, Stop>
-    ensures { (draft : Draft) → MakesItems result draft draft (other_sorts state.now missing (here tree.now i)) }
+    ensures { (draft : Draft) → MakesItems result draft draft (other_sorts state.now missing (trees_from tree.now i)) }
 {
     let mut sorts = Vec::new(alloc);
     let mut at = i;
@@ -243,7 +239,7 @@ fn other_sorts_at(
     }
 }
 
-/// At most 255 sorts of arguments come next in the list at a parenthesis.
+/// At most `MOST_ARGS` sorts of arguments come next in the list at a parenthesis.
 fn argument_sorts_at(
     alloc: Global,
     state: &SessionState,
@@ -251,19 +247,15 @@ fn argument_sorts_at(
     paren: u32,
     inner: u32,
 ) -> Result<Numbers, Stop>
-    ensures { Checks result (argument_sorts state.now (record { paren = word_at tree.now paren; inner = here tree.now inner })) }
+    ensures { Checks result (argument_sorts state.now (record { paren = word_at tree.now paren; inner = trees_from tree.now inner })) }
 {
-    let behind = behind_some(tree, inner, 255);
-    match check_no_more(alloc, tree, behind, Refusal::TooManyArguments) {
-        Err(stop) => Err(stop),
-        Ok(()) => match other_sorts_at(alloc, state, tree, inner, place_at(tree, paren)) {
-            Err(stop) => Err(stop),
-            Ok(sorts) => Ok(Numbers::from_slice(alloc, sorts.as_slice())?),
-        },
-    }
+    let behind = behind_some(tree, inner, MOST_ARGS);
+    check_no_more(alloc, tree, behind, Refusal::TooManyArguments)?;
+    let sorts = other_sorts_at(alloc, state, tree, inner, place_at(tree, paren))?;
+    Ok(Numbers::from_slice(alloc, sorts.as_slice())?)
 }
 
-/// A list of at most 255 sorts of arguments must come next.
+/// A list of at most `MOST_ARGS` sorts of arguments must come next.
 fn arguments_at(
     alloc: Global,
     state: &SessionState,
@@ -271,12 +263,10 @@ fn arguments_at(
     i: u32,
     missing: Place,
 ) -> Result<Numbers, Stop>
-    ensures { Checks result (arguments_first state.now missing (here tree.now i)) }
+    ensures { Checks result (arguments_first state.now missing (trees_from tree.now i)) }
 {
-    match check_list(alloc, tree, i, missing) {
-        Err(stop) => Err(stop),
-        Ok(inner) => argument_sorts_at(alloc, state, tree, i, inner),
-    }
+    let inner = check_list(alloc, tree, i, missing)?;
+    argument_sorts_at(alloc, state, tree, i, inner)
 }
 
 /// The sorts of a function must come next: a list of those of its arguments, and its own.
@@ -287,7 +277,7 @@ pub(crate) fn signature_at(
     i: u32,
     missing: Place,
 ) -> Result<Signature, Stop>
-    ensures { Checks result (signature_first state.now missing (here tree.now i)) }
+    ensures { Checks result (signature_first state.now missing (trees_from tree.now i)) }
 {
     match arguments_at(alloc, state, tree, i, missing) {
         Err(stop) => Err(stop),

@@ -2,7 +2,7 @@
 ghost use Rattle.std.specs.Prelude.{◌≡◌};
 ghost use Rattle.smt_names.specs.Makes.{Checks};
 ghost use Rattle.smt_terms.specs.Checks.{ChecksAs};
-ghost use Rattle.smt_terms.specs.Cursor.{here, word_at};
+ghost use Rattle.smt_terms.specs.Cursor.{trees_from, word_at};
 ghost use Rattle.smt_commands.specs.Answers.{Answers};
 ghost use Rattle.smt_commands.specs.Commands.{alone, asked_form, begun, get_info, info_form, info_of, key_form, logic_form, one_or_two, set_info, set_logic};
 
@@ -16,12 +16,10 @@ use std::alloc::Global;
 
 /// One symbol.
 fn check_logic(alloc: Global, tree: &Tree, i: u32, head: Place) -> Result<(), Stop>
-    ensures { ChecksAs result (word_at tree.now i) (logic_form head (here tree.now i)) }
+    ensures { ChecksAs result (word_at tree.now i) (logic_form head (trees_from tree.now i)) }
 {
-    match check_exactly(alloc, tree, i, 1, head) {
-        Err(stop) => Err(stop),
-        Ok(()) => check_symbol(alloc, tree, i, head),
-    }
+    check_exactly(alloc, tree, i, 1, head)?;
+    check_symbol(alloc, tree, i, head)
 }
 
 /// A logic is named.
@@ -32,42 +30,34 @@ pub(crate) fn set_logic(
     i: u32,
     head: Place,
 ) -> Result<Command, Stop>
-    ensures { Answers result state.now (begun state.now (set_logic state.now head (here tree.now i))) }
+    ensures { Answers result state.now (begun state.now (set_logic state.now head (trees_from tree.now i))) }
 {
-    match check_logic(alloc, tree, i, head) {
-        Err(stop) => Err(stop),
-        Ok(()) => Ok(Command::Silent),
-    }
+    check_logic(alloc, tree, i, head)?;
+    Ok(Command::Silent)
 }
 
 /// One part or two.
 fn check_one_or_two(alloc: Global, tree: &Tree, i: u32, head: Place) -> Result<(), Stop>
-    ensures { Checks result (one_or_two head (here tree.now i)) }
+    ensures { Checks result (one_or_two head (trees_from tree.now i)) }
 {
-    match check_at_least(alloc, tree, i, 1, head) {
-        Err(stop) => Err(stop),
-        Ok(()) => check_at_most(alloc, tree, i, 2),
-    }
+    check_at_least(alloc, tree, i, 1, head)?;
+    check_at_most(alloc, tree, i, 2)
 }
 
 /// A keyword, and perhaps one part more.
 pub(crate) fn check_key(alloc: Global, tree: &Tree, i: u32, head: Place) -> Result<(), Stop>
-    ensures { ChecksAs result (word_at tree.now i) (key_form head (here tree.now i)) }
+    ensures { ChecksAs result (word_at tree.now i) (key_form head (trees_from tree.now i)) }
 {
-    match check_one_or_two(alloc, tree, i, head) {
-        Err(stop) => Err(stop),
-        Ok(()) => check_keyword(alloc, tree, i, head),
-    }
+    check_one_or_two(alloc, tree, i, head)?;
+    check_keyword(alloc, tree, i, head)
 }
 
 /// A keyword, and perhaps its value.
 fn check_info(alloc: Global, tree: &Tree, i: u32, head: Place) -> Result<(), Stop>
-    ensures { Checks result (info_form head (here tree.now i)) }
+    ensures { Checks result (info_form head (trees_from tree.now i)) }
 {
-    match check_key(alloc, tree, i, head) {
-        Err(stop) => Err(stop),
-        Ok(()) => check_plain_value(alloc, tree, behind_one(tree, i)),
-    }
+    check_key(alloc, tree, i, head)?;
+    check_plain_value(alloc, tree, behind_one(tree, i))
 }
 
 /// An information is set.
@@ -78,12 +68,10 @@ pub(crate) fn set_info(
     i: u32,
     head: Place,
 ) -> Result<Command, Stop>
-    ensures { Answers result state.now (begun state.now (set_info state.now head (here tree.now i))) }
+    ensures { Answers result state.now (begun state.now (set_info state.now head (trees_from tree.now i))) }
 {
-    match check_info(alloc, tree, i, head) {
-        Err(stop) => Err(stop),
-        Ok(()) => Ok(Command::Silent),
-    }
+    check_info(alloc, tree, i, head)?;
+    Ok(Command::Silent)
 }
 
 /// A command without parts that changes nothing.
@@ -94,22 +82,18 @@ pub(crate) fn ask(
     i: u32,
     command: Command,
 ) -> Result<Command, Stop>
-    ensures { Answers result state.now (begun state.now (alone command state.now (here tree.now i))) }
+    ensures { Answers result state.now (begun state.now (alone command state.now (trees_from tree.now i))) }
 {
-    match check_at_most(alloc, tree, i, 0) {
-        Err(stop) => Err(stop),
-        Ok(()) => Ok(command),
-    }
+    check_at_most(alloc, tree, i, 0)?;
+    Ok(command)
 }
 
 /// One keyword.
 fn check_asked(alloc: Global, tree: &Tree, i: u32, head: Place) -> Result<(), Stop>
-    ensures { ChecksAs result (word_at tree.now i) (asked_form head (here tree.now i)) }
+    ensures { ChecksAs result (word_at tree.now i) (asked_form head (trees_from tree.now i)) }
 {
-    match check_exactly(alloc, tree, i, 1, head) {
-        Err(stop) => Err(stop),
-        Ok(()) => check_keyword(alloc, tree, i, head),
-    }
+    check_exactly(alloc, tree, i, 1, head)?;
+    check_keyword(alloc, tree, i, head)
 }
 
 /// The information that a keyword names.
@@ -146,13 +130,9 @@ pub(crate) fn get_info(
     i: u32,
     head: Place,
 ) -> Result<Command, Stop>
-    ensures { Answers result state.now (begun state.now (get_info state.now head (here tree.now i))) }
+    ensures { Answers result state.now (begun state.now (get_info state.now head (trees_from tree.now i))) }
 {
-    match check_asked(alloc, tree, i, head) {
-        Err(stop) => Err(stop),
-        Ok(()) => {
-            let info = info_named(text_at(tree, i));
-            Ok(Command::GetInfo { info })
-        }
-    }
+    check_asked(alloc, tree, i, head)?;
+    let info = info_named(text_at(tree, i));
+    Ok(Command::GetInfo { info })
 }

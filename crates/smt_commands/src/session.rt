@@ -1,7 +1,7 @@
 //! A session of a script.
 ghost use Rattle.std.specs.Prelude.{◌≡◌, length, option_copied, OnErr};
 ghost use Rattle.smt_names.specs.Names.{at_start};
-ghost use Rattle.smt_terms.specs.Cursor.{here};
+ghost use Rattle.smt_terms.specs.Cursor.{trees_from};
 ghost use Rattle.smt_commands.specs.Answers.{Answers};
 ghost use Rattle.smt_commands.specs.Commands.{begun, command_of, elaborate, headed, symbol_name};
 ghost use Rattle.smt_commands.specs.SessionLaws.{IsSound};
@@ -30,7 +30,7 @@ fn read_named(
     name: Named,
 ) -> Result<Command, Stop>
     requires { IsSound state.old }
-    ensures answer { Answers result state.new (begun state.old (headed state.old head (here tree.now i) name)) }
+    ensures answer { Answers result state.new (begun state.old (headed state.old head (trees_from tree.now i) name)) }
     ensures err { OnErr result (state.new ≡ state.old) }
 {
     match name {
@@ -64,7 +64,7 @@ fn read_list(
     paren: Place,
 ) -> Result<Command, Stop>
     requires { IsSound state.old }
-    ensures answer { Answers result state.new (begun state.old (command_of state.old paren (here tree.now i))) }
+    ensures answer { Answers result state.new (begun state.old (command_of state.old paren (trees_from tree.now i))) }
     ensures err { OnErr result (state.new ≡ state.old) }
 {
     let _len = tree.len();

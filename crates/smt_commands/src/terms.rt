@@ -5,7 +5,8 @@ ghost use Rattle.smt_names.specs.Value.{sort_of};
 ghost use Rattle.smt_names.specs.Names.{head_of, with_definition};
 ghost use Rattle.smt_names.specs.declared.head.Head.TheVariants.{Unknown};
 ghost use Rattle.smt_commands.specs.declared.command.Command.TheVariants.{Silent};
-ghost use Rattle.smt_terms.specs.Cursor.{here, word_at};
+ghost use Rattle.smt_terms.specs.Cursor.{trees_from, word_at};
+ghost use Rattle.smt_terms.specs.Reading.{from};
 ghost use Rattle.smt_terms.specs.Machine.{scope_of};
 ghost use Rattle.smt_commands.specs.Answers.{Answers};
 ghost use Rattle.smt_commands.specs.Commands.{assert_truth, asserted_term, begun, define_fun, defined_by, sorted_value};
@@ -19,7 +20,7 @@ use crate::parts::{first_place_at, sort_at};
 use formula_draft::FormulaDraft;
 use smt_laws::laws::formula_law;
 use smt_names::{BoundNames, Definition, Refusal, SessionState, Stop, Value};
-use smt_terms::{Inside, behind_one, behind_some, check_exactly, elaborate_term, text_at};
+use smt_terms::{Context, Inside, behind_one, behind_some, check_exactly, elaborate_term, text_at};
 use smt_text::{Place, Tree};
 use std::alloc::Global;
 
@@ -32,28 +33,21 @@ fn has_sort(value: Value, sort: u32) -> bool
 
 /// The value of the tree that comes next, which must have this sort.
 fn sorted_value_at(
-    alloc: Global,
+    context: &Context<'_>,
     draft: &mut FormulaDraft,
-    state: &SessionState,
-    tree: &Tree,
     bound: &mut BoundNames,
-    inside: Inside,
     i: u32,
     head: Place,
     sort: u32,
 ) -> Result<Value, Stop>
-    ensures { Makes result draft.old draft.new (sorted_value head (scope_of state.now inside bound.old) sort (here tree.now i)) }
+    ensures { Makes result draft.old draft.new (sorted_value head (scope_of context.now.state.now context.now.inside bound.old) sort (trees_from context.now.tree.now i)) }
 {
-    match elaborate_term(alloc, draft, state, tree, bound, inside, i, head) {
-        Err(stop) => Err(stop),
-        Ok(value) => {
-            if has_sort(value, sort) {
-                Ok(value)
-            } else {
-                let place = first_place_at(tree, i, head);
-                Err(Stop::at(alloc, Refusal::WrongSort, place))
-            }
-        }
+    let value = elaborate_term(context, draft, bound, i, head)?;
+    if has_sort(value, sort) {
+        Ok(value)
+    } else {
+        let place = first_place_at(context.tree, i, head);
+        Err(Stop::at(context.alloc, Refusal::WrongSort, place))
     }
 }
 
@@ -67,26 +61,22 @@ fn put_definition(
     ensures answer { Answers result state.new (Ok (record { command = Silent; state = with_definition name.now definition state.old })) }
     ensures err { OnErr result (state.new ≡ state.old) }
 {
-    match state.define(name, definition) {
-        Err(_) => Err(Stop::Memory),
-        Ok(()) => Ok(Command::Silent),
-    }
+    state.define(name, definition)?;
+    Ok(Command::Silent)
 }
 
-/// What is defined of these parameters, under the name that a token has.
+/// What is defined of these parameters, which stand behind the name that a token has.
 fn define_by(
     alloc: Global,
     state: &mut SessionState,
     tree: &Tree,
     name: u32,
     parameters: Parameters,
-    sorted: u32,
-    given: u32,
     head: Place,
 ) -> Result<Command, Stop>
     requires sorts { parameters.sorts ≡ sorts_of parameters.bound }
     requires new { head_of state.old (word_at tree.now name).text ≡ Unknown }
-    ensures answer { Answers result state.new (begun state.old (defined_by state.old head (word_at tree.now name).text parameters.bound (here tree.now sorted) (here tree.now given))) }
+    ensures answer { Answers result state.new (begun state.old (defined_by state.old head (word_at tree.now name).text parameters.bound (from 2 (trees_from tree.now name)) (from 3 (trees_from tree.now name)))) }
     ensures err { OnErr result (state.new ≡ state.old) }
 {
     let inside = Inside {
@@ -94,27 +84,24 @@ fn define_by(
         in_definition: true,
     };
     let Parameters { mut bound, sorts } = parameters;
-    match sort_at(alloc, state, tree, sorted, head) {
-        Err(stop) => Err(stop),
-        Ok(sort) => {
-            let limits = state.limits();
-            let mut draft = FormulaDraft::new(alloc, limits.terms, limits.nodes);
-            match sorted_value_at(
-                alloc, &mut draft, state, tree, &mut bound, inside, given, head, sort,
-            ) {
-                Err(stop) => Err(stop),
-                Ok(value) => {
-                    let definition = Definition {
-                        parameters: sorts,
-                        sort,
-                        draft,
-                        value,
-                    };
-                    put_definition(state, text_at(tree, name), definition)
-                }
-            }
-        }
-    }
+    let sort = sort_at(alloc, state, tree, behind_some(tree, name, 2), head)?;
+    let given = behind_some(tree, name, 3);
+    let limits = state.limits();
+    let mut draft = FormulaDraft::new(alloc, limits.terms, limits.nodes);
+    let context = Context {
+        alloc,
+        state,
+        tree,
+        inside,
+    };
+    let value = sorted_value_at(&context, &mut draft, &mut bound, given, head, sort)?;
+    let definition = Definition {
+        parameters: sorts,
+        sort,
+        draft,
+        value,
+    };
+    put_definition(state, text_at(tree, name), definition)
 }
 
 /// A name is defined.
@@ -125,20 +112,12 @@ pub(crate) fn define_fun(
     i: u32,
     head: Place,
 ) -> Result<Command, Stop>
-    ensures answer { Answers result state.new (begun state.old (define_fun state.old head (here tree.now i))) }
+    ensures answer { Answers result state.new (begun state.old (define_fun state.old head (trees_from tree.now i))) }
     ensures err { OnErr result (state.new ≡ state.old) }
 {
-    match check_named(alloc, state, tree, i, 4, head) {
-        Err(stop) => Err(stop),
-        Ok(()) => match parameters_at(alloc, state, tree, behind_one(tree, i), head) {
-            Err(stop) => Err(stop),
-            Ok(parameters) => {
-                let sorted = behind_some(tree, i, 2);
-                let given = behind_some(tree, i, 3);
-                define_by(alloc, state, tree, i, parameters, sorted, given, head)
-            }
-        },
-    }
+    check_named(alloc, state, tree, i, 4, head)?;
+    let parameters = parameters_at(alloc, state, tree, behind_one(tree, i), head)?;
+    define_by(alloc, state, tree, i, parameters, head)
 }
 
 /// The formula that comes next is asserted.
@@ -150,7 +129,7 @@ fn assert_term(
     head: Place,
 ) -> Result<Command, Stop>
     requires { IsSound state.now }
-    ensures { Answers result state.now (begun state.now (asserted_term state.now head (here tree.now i))) }
+    ensures { Answers result state.now (begun state.now (asserted_term state.now head (trees_from tree.now i))) }
 {
     formula_law();
     let limits = state.limits();
@@ -160,15 +139,15 @@ fn assert_term(
         in_forall: false,
         in_definition: false,
     };
-    match sorted_value_at(
-        alloc, &mut draft, state, tree, &mut bound, inside, i, head, 0,
-    ) {
-        Err(stop) => Err(stop),
-        Ok(value) => {
-            let formula = draft.finish(value.node());
-            Ok(Command::Assert { formula })
-        }
-    }
+    let context = Context {
+        alloc,
+        state,
+        tree,
+        inside,
+    };
+    let value = sorted_value_at(&context, &mut draft, &mut bound, i, head, 0)?;
+    let formula = draft.finish(value.node());
+    Ok(Command::Assert { formula })
 }
 
 /// A formula is asserted.
@@ -180,10 +159,8 @@ pub(crate) fn assert_truth(
     head: Place,
 ) -> Result<Command, Stop>
     requires { IsSound state.now }
-    ensures { Answers result state.now (begun state.now (assert_truth state.now head (here tree.now i))) }
+    ensures { Answers result state.now (begun state.now (assert_truth state.now head (trees_from tree.now i))) }
 {
-    match check_exactly(alloc, tree, i, 1, head) {
-        Err(stop) => Err(stop),
-        Ok(()) => assert_term(alloc, state, tree, i, head),
-    }
+    check_exactly(alloc, tree, i, 1, head)?;
+    assert_term(alloc, state, tree, i, head)
 }

@@ -14,7 +14,7 @@ use Rattle.smt_names.specs.declared.value.Value.TheVariants.{Formula}
 use Rattle.smt_names.specs.Names.{State, Declared, at_start, word_of, connective, is_reserved}
 use Rattle.smt_forms.specs.Nodes.{connected}
 use Rattle.smt_forms.specs.Applied.{applied}
-use Rattle.smt_terms.specs.Terms.{value, meant, list_value, form_of, token_value}
+use Rattle.smt_terms.specs.Terms.{value, reading, list_value, form_of, token_value}
 use Rattle.smt_laws.specs.Sound.{IsFunction, AreDeclared}
 use Rattle.smt_terms.specs.Scopes.{outside}
 use Rattle.smt_laws.proofs.Formulas.{makes_formulas}
@@ -60,8 +60,8 @@ later = record {
   most_nodes = 100;
 }
 
-makes_later : value here (outside uf) (meant universal) (empty_draft 100 100) ≡ Ok (Formula 2 None, later)
-unfolding meant list_value form_of token_value is_reserved connective applied connected
+makes_later : value here (outside uf) (reading universal) (empty_draft 100 100) ≡ Ok (Formula 2 None, later)
+unfolding reading list_value form_of token_value is_reserved connective applied connected
 makes_later = refl
 
 one_argument : (sort : ℕ) (called : List ℕ) → IsFunction (record { name = called; arguments = 1 ∷ []; sort = sort })

@@ -27,7 +27,7 @@ use Rattle.smt_names.specs.Names.{State, Scope}
 use Rattle.smt_patterns.specs.Patterns.{size_of, trigger_of, occurs}
 use Rattle.smt_patterns.specs.Roots.{positive_row, atom_row, no_variable, root_of, small_root}
 use Rattle.smt_patterns.specs.Triggers.{each_occurs, rooted_trigger}
-use Rattle.smt_terms.specs.Meant.{Meant, End, Token, Group, from, no_more, at_least, Listed, no_binding, attributes_of}
+use Rattle.smt_terms.specs.Reading.{Reading, End, Token, Group, from, no_more, at_least, Listed, no_binding, attributes_of}
 use Rattle.smt_terms.specs.Terms.{token_value, variables_from, Attribute, attribute_if, is_pattern_key, patterns_in, Body, is_annotation, body_of, pattern_root, add_root, pattern_roots, pattern_list, trigger, triggers, some_trigger, inside_of, quantified, body_forall, bound_forall, checked_forall, forall_value}
 use Rattle.formula_draft.specs.Sorted.{Signature, HasSort, IsPlain, IsTruth, IsSortedTrigger}
 use Rattle.smt_laws.specs.Sorted.{signatures_of}
@@ -82,20 +82,20 @@ some_sort (suc n) other = omega arith
 
 module _ (s : Setting) where
   -- no binding stands first
-  abbrev pub NoBinding : Meant → Type 0
+  abbrev pub NoBinding : Reading → Type 0
   NoBinding (Group paren meaning (Token name given) trees) = ⊥
   NoBinding trees = Unit {0}
 
-  good_no_binding : (draft : Draft) (refusal : Refusal) (trees : Meant) → Sound s draft → Good s draft (λ _ _. NoBinding trees) (no_binding refusal trees draft)
+  good_no_binding : (draft : Draft) (refusal : Refusal) (trees : Reading) → Sound s draft → Good s draft (λ _ _. NoBinding trees) (no_binding refusal trees draft)
   good_no_binding draft refusal (Group paren meaning (Token name given) trees) sound = refuses
   good_no_binding draft refusal trees sound = good_made s draft (tt {0}) sound (tt {0})
 
   -- variables, no more than the bindings are
-  pub record Variables (index : ℕ) (trees : Meant) (bound : List Bound) : Type 0 where
+  pub record Variables (index : ℕ) (trees : Reading) (bound : List Bound) : Type 0 where
     pub are : AreVariables index bound
     pub few : (n : ℕ) → NoBinding (from n trees) → length bound ≤ n
 
-  pub good_variables : (draft : Draft) (state : State) (index : ℕ) (trees : Meant) → Sound s draft → Good s draft (λ _ bound. Variables index trees bound) (variables_from state index trees draft)
+  pub good_variables : (draft : Draft) (state : State) (index : ℕ) (trees : Reading) → Sound s draft → Good s draft (λ _ bound. Variables index trees bound) (variables_from state index trees draft)
   good_variables draft state index (Group paren meaning (Token name given) after) sound =
       good_then s draft _ (good_other_sort s draft state name.place given sound) λ sort d1 k1 e1 other.
       good_then s d1 _ (good_variables d1 state (index + 1) after k1) λ bound d2 k2 e2 rest.
@@ -117,7 +117,7 @@ attributes_mean : (b : Bool) (attribute : Attribute) → AttributeMeans attribut
 attributes_mean true attribute is = more is none
 attributes_mean false attribute is = none
 
-patterns_mean : (trees : Meant) → AllMean GoodMeaning trees → Each AttributeMeans (patterns_in trees)
+patterns_mean : (trees : Reading) → AllMean GoodMeaning trees → Each AttributeMeans (patterns_in trees)
 patterns_mean End all = none
 patterns_mean (Token word trees) (token rest) = each_append (attributes_mean (is_pattern_key word) (record { key = word; behind = trees }) rest) (patterns_mean trees rest)
 patterns_mean (Group paren meaning inner trees) (group is within rest) = patterns_mean trees rest
@@ -126,7 +126,7 @@ record BodyMeans (body : Body) : Type 0 where
   tree_means : AllMean GoodMeaning body.tree
   patterns_are : Each AttributeMeans body.patterns
 
-good_body : (s : Setting) (draft : Draft) (so_far : List Attribute) (trees : Meant) → Sound s draft → Each AttributeMeans so_far → AllMean GoodMeaning trees → Good s draft (λ _ body. BodyMeans body) (body_of so_far trees draft)
+good_body : (s : Setting) (draft : Draft) (so_far : List Attribute) (trees : Reading) → Sound s draft → Each AttributeMeans so_far → AllMean GoodMeaning trees → Good s draft (λ _ body. BodyMeans body) (body_of so_far trees draft)
 good_body s draft so_far (Group paren meaning (Token head parts) trees) sound so (group is (token within) rest) =
     by (λ d keeps. good_body s d (so_far ++ patterns_in (from 1 parts)) parts keeps (each_append so (patterns_mean (from 1 parts) (from_mean 1 within))) within) (is_annotation head)
   where
@@ -138,16 +138,16 @@ good_body s draft so_far trees sound so all = good_made s draft (record { patter
 
 -- Roots.
 -- how many trees there are
-abbrev count : Meant → ℕ
+abbrev count : Reading → ℕ
 count End = 0
 count (Token word trees) = suc (count trees)
 count (Group paren meaning inner trees) = suc (count trees)
 
-abbrev IsEnd : Meant → Type 0
+abbrev IsEnd : Reading → Type 0
 IsEnd End = Unit {0}
 IsEnd trees = ⊥
 
-from_end : (n : ℕ) (trees : Meant) → IsEnd (from n trees) → count trees ≤ n
+from_end : (n : ℕ) (trees : Reading) → IsEnd (from n trees) → count trees ≤ n
 from_end n End is = omega arith
 from_end zero (Token word trees) is = absurd is
 from_end zero (Group paren meaning inner trees) is = absurd is
@@ -247,11 +247,11 @@ module _ (scope : Scope) (variables : List ℕ) (within : scope.in_forall ≡ tr
   plain_here = inside_holds_none scope.in_forall scope.in_definition within
 
   -- roots, as many as trees
-  record Roots (trees : Meant) (draft : Draft) (roots : List ℕ) : Type 0 where
+  record Roots (trees : Reading) (draft : Draft) (roots : List ℕ) : Type 0 where
     are : Each (Root s draft) roots
     as_many : length roots ≡ count trees
 
-  good_add : (draft : Draft) (at : Place) (first : Making Value) (others : Making (List ℕ)) (trees : Meant) → Sound s draft → IsScope variables draft scope → Good s draft (λ d v. FitsIn s d v) (first draft)
+  good_add : (draft : Draft) (at : Place) (first : Making Value) (others : Making (List ℕ)) (trees : Reading) → Sound s draft → IsScope variables draft scope → Good s draft (λ d v. FitsIn s d v) (first draft)
       → ((d : Draft) → Sound s d → Extends draft d → Good s d (λ e roots. Roots trees e roots) (others d))
       → Good s draft (λ d roots. Each (Root s d) roots × (length roots ≡ suc (count trees))) (add_root (pattern_root at first) others draft)
   good_add draft at first others trees sound is one rest =
@@ -259,19 +259,19 @@ module _ (scope : Scope) (variables : List ℕ) (within : scope.in_forall ≡ tr
       good_then s d2 _ (rest d2 k2 e2) λ roots d3 k3 e3 are.
       good_made s d3 (r ∷ roots) k3 (more (root_later s is.others plain_here d2 d3 e3 r root) are.are, ap suc are.as_many)
 
-  good_roots : (draft : Draft) → Sound s draft → IsScope variables draft scope → (trees : Meant) → AllMean GoodMeaning trees → Good s draft (λ d roots. Roots trees d roots) (pattern_roots scope trees draft)
+  good_roots : (draft : Draft) → Sound s draft → IsScope variables draft scope → (trees : Reading) → AllMean GoodMeaning trees → Good s draft (λ d roots. Roots trees d roots) (pattern_roots scope trees draft)
   good_roots draft sound is End all = good_made s draft [] sound (record { are = none; as_many = refl })
   good_roots draft sound is (Token word trees) (token rest) = good_as s draft (λ d roots e both. record { are = both.0; as_many = both.1 })
       (good_add draft word.place (token_value scope word) (pattern_roots scope trees) trees sound is (good_token scope variables draft sound is word) (λ d keeps extends. good_roots d keeps (scope_later scope variables draft d extends is) trees rest))
   good_roots draft sound is (Group paren meaning inner trees) (group means within rest) = good_as s draft (λ d roots e both. record { are = both.0; as_many = both.1 })
       (good_add draft paren.place (meaning scope) (pattern_roots scope trees) trees sound is (means scope variables draft sound is) (λ d keeps extends. good_roots d keeps (scope_later scope variables draft d extends is) trees rest))
 
-  good_no_more : (draft : Draft) (refusal : Refusal) (trees : Meant) → Sound s draft → Good s draft (λ _ _. IsEnd trees) (no_more refusal trees draft)
+  good_no_more : (draft : Draft) (refusal : Refusal) (trees : Reading) → Sound s draft → Good s draft (λ _ _. IsEnd trees) (no_more refusal trees draft)
   good_no_more draft refusal End sound = good_made s draft (tt {0}) sound (tt {0})
   good_no_more draft refusal (Token word trees) sound = refuses
   good_no_more draft refusal (Group paren meaning inner trees) sound = refuses
 
-  good_some : (draft : Draft) (missing : Place) (trees : Meant) → Sound s draft → Good s draft (λ _ _. 1 ≤ count trees) (at_least 1 missing trees draft)
+  good_some : (draft : Draft) (missing : Place) (trees : Reading) → Sound s draft → Good s draft (λ _ _. 1 ≤ count trees) (at_least 1 missing trees draft)
   good_some draft missing End sound = refuses
   good_some draft missing (Token word trees) sound = good_made s draft (tt {0}) sound (omega arith)
   good_some draft missing (Group paren meaning inner trees) sound = good_made s draft (tt {0}) sound (omega arith)
@@ -314,7 +314,7 @@ module _ (scope : Scope) (variables : List ℕ) (within : scope.in_forall ≡ tr
             no_less : (k : ℕ) → k ≡ 0 + k
             no_less k = omega arith
 
-    good_pattern_list : (draft : Draft) (key : Place) (trees : Meant) → Sound s draft → AllMean GoodMeaning trees → Good s draft (λ _ (listed : Listed). AllMean GoodMeaning listed.inner) (pattern_list key trees draft)
+    good_pattern_list : (draft : Draft) (key : Place) (trees : Reading) → Sound s draft → AllMean GoodMeaning trees → Good s draft (λ _ (listed : Listed). AllMean GoodMeaning listed.inner) (pattern_list key trees draft)
     good_pattern_list draft key End sound all = refuses
     good_pattern_list draft key (Token word trees) sound all = refuses
     good_pattern_list draft key (Group paren meaning inner trees) sound (group is within rest) = good_made s draft (record { paren = paren; inner = inner }) sound within
@@ -445,25 +445,25 @@ module _ (valid : MakesValid) (scope : Scope) (may : may_hold scope ≡ true) wh
         good_then outer d4 _ (good_forall_node paren d4 index (draft_forall (length bound) (self v) patterns) k4 at (count_of bound) plain4 (All-weaker FitsInside (IsSortedTrigger (signatures_of scope.state.functions) (sorts_of bound)) (λ t both. both.1) patterns fit)) λ n d5 k5 e5 truth_is.
         good_made outer d5 (Formula n None) k5 (truth_is, may)
 
-    good_body_forall : (paren head : Place) (draft : Draft) (trees : Meant) → Sound outer draft → IsScope [] draft scope → AllMean GoodMeaning trees → Good outer draft (λ d v. FitsIn outer d v) (body_forall paren head scope bound trees draft)
+    good_body_forall : (paren head : Place) (draft : Draft) (trees : Reading) → Sound outer draft → IsScope [] draft scope → AllMean GoodMeaning trees → Good outer draft (λ d v. FitsIn outer d v) (body_forall paren head scope bound trees draft)
     good_body_forall paren head draft trees sound is all =
         good_then outer draft _ (good_body outer draft [] trees sound none all) λ body d1 k1 e1 means.
         good_quantified paren head d1 body k1 (scope_later scope [] draft d1 e1 is) means
 
-  good_bound_forall : (paren head : Place) (draft : Draft) (bindings trees : Meant) → Sound outer draft → IsScope [] draft scope → AllMean GoodMeaning trees → Good outer draft (λ d v. FitsIn outer d v) (bound_forall paren head scope bindings trees draft)
+  good_bound_forall : (paren head : Place) (draft : Draft) (bindings trees : Reading) → Sound outer draft → IsScope [] draft scope → AllMean GoodMeaning trees → Good outer draft (λ d v. FitsIn outer d v) (bound_forall paren head scope bindings trees draft)
   good_bound_forall paren head draft bindings trees sound is all =
       good_then outer draft _ (good_no_binding outer draft refusal.TooManyVariables (from 32 bindings) sound) λ _ d1 k1 e1 isnt.
       good_then outer d1 _ (good_variables outer d1 scope.state 0 bindings k1) λ bound d2 k2 e2 variables.
       good_body_forall bound variables.are (variables.few 32 isnt) paren head d2 trees k2 (scope_later scope [] d1 d2 e2 (scope_later scope [] draft d1 e1 is)) all
 
-  good_checked_forall : (paren head : Place) (parts : Meant) (draft : Draft) → Sound outer draft → IsScope [] draft scope → AllMean GoodMeaning parts → Good outer draft (λ d v. FitsIn outer d v) (checked_forall paren head parts scope draft)
+  good_checked_forall : (paren head : Place) (parts : Reading) (draft : Draft) → Sound outer draft → IsScope [] draft scope → AllMean GoodMeaning parts → Good outer draft (λ d v. FitsIn outer d v) (checked_forall paren head parts scope draft)
   good_checked_forall paren head parts draft sound is all =
       good_then outer draft _ (passes_exactly outer draft 2 head parts sound) λ _ d1 k1 e1 _.
       good_then outer d1 _ (good_some_bindings outer GoodMeaning d1 head parts all k1) λ listed d2 k2 e2 _.
       good_bound_forall paren head d2 listed.inner (from 1 parts) k2 (scope_later scope [] d1 d2 e2 (scope_later scope [] draft d1 e1 is)) (from_mean 1 all)
 
 -- a forall
-pub good_forall : MakesValid → (paren head : Place) (parts : Meant) → AllMean GoodMeaning parts → GoodMeaning (forall_value paren head parts)
+pub good_forall : MakesValid → (paren head : Place) (parts : Reading) → AllMean GoodMeaning parts → GoodMeaning (forall_value paren head parts)
 good_forall valid paren head parts all scope variables draft sound is =
     good_then (setting scope variables) draft _ (good_want (setting scope variables) draft (may_hold scope) refusal.NotInProfile head sound) λ _ d1 k1 e1 may.
     subst (λ vs. Sound (setting scope vs) d1 → IsScope vs d1 scope → Good (setting scope vs) d1 (λ d v. FitsIn (setting scope vs) d v) (checked_forall paren head parts scope d1)) (sym (is.outside may))

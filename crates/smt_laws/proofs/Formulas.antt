@@ -16,9 +16,9 @@ use Rattle.smt_names.specs.declared.refusal.Refusal.{Refusal}
 use Rattle.smt_names.specs.declared.refusal.Refusal.TheVariants as refusal
 use Rattle.smt_names.specs.Value.{self}
 use Rattle.smt_names.specs.Making.{Making, then_from, want}
-use Rattle.smt_terms.specs.Meant.{Meant, Token, Group, first_place, sort_first}
+use Rattle.smt_terms.specs.Reading.{Reading, Token, Group, first_place, sort_first}
 use Rattle.smt_names.specs.Names.{State}
-use Rattle.smt_terms.specs.Terms.{meant, variables_from}
+use Rattle.smt_terms.specs.Terms.{reading, variables_from}
 use Rattle.formula_draft.specs.Sorted.{Signature, IsPlain}
 use Rattle.smt_laws.specs.Sorted.{as_signature, signatures_of}
 use Rattle.smt_laws.specs.Sound.{Fits, IsWhole, IsDefinition, inside, AreDeclared}
@@ -73,7 +73,7 @@ pub makes_formulas : MakesFormulas
 makes_formulas state missing trees terms nodes v draft is made_so bool =
     let s = setting (outside state) [] in
     let old = empty_draft terms nodes in
-    let good = good_value (outside state) [] old (empty_sound terms nodes s) (outside_is state old is) missing (meant trees) (all_mean makes_valid trees) in
+    let good = good_value (outside state) [] old (empty_sound terms nodes s) (outside_is state old is) missing (reading trees) (all_mean makes_valid trees) in
     let done = done_of s old (λ d x. FitsIn s d x) v draft (subst (Good s old (λ d x. FitsIn s d x)) made_so good) in
     let truth = (formula_of s draft v bool done.fits).itself in (
       record {
@@ -131,7 +131,7 @@ gives_want false refusal place draft = gives_none
 given_so : {A : Type 0} (P : A → Type 0) (v : A) (draft : Draft) → Gives P (Ok (v, draft)) → P v
 given_so P v draft (gives is) = is
 
-gives_variables : (state : State) (index : ℕ) (trees : Meant) (draft : Draft) → Gives (AreVariables index) (variables_from state index trees draft)
+gives_variables : (state : State) (index : ℕ) (trees : Reading) (draft : Draft) → Gives (AreVariables index) (variables_from state index trees draft)
 gives_variables state index (Group paren meaning (Token name term) after) draft =
     gives_then {P = λ sort. 1 ≤ sort} _ (gives_then _ (gives_any (sort_first state name.place term draft)) λ sort d1 _. gives_then _ (gives_want (not (sort == 0)) refusal.NotInProfile (first_place name.place term) d1) λ _ d2 other. gives (some_sort sort other)) λ sort d3 some.
     gives_then _ (gives_variables state (index + 1) after d3) λ bound d4 rest. gives (variable_first some (subst (λ k. AreVariables k bound) next rest))
@@ -147,7 +147,7 @@ makes_definitions state missing bindings before after parameters trees most_rows
     let variables = sorts_of parameters in
     let s = setting scope variables in
     let old = empty_draft most_rows most_nodes in
-    let good = good_value scope variables old (empty_sound most_rows most_nodes s) (definition_scope state parameters old is variables_are) missing (meant trees) (all_mean makes_valid trees) in
+    let good = good_value scope variables old (empty_sound most_rows most_nodes s) (definition_scope state parameters old is variables_are) missing (reading trees) (all_mean makes_valid trees) in
     let done = done_of s old (λ d x. FitsIn s d x) v later (subst (Good s old (λ d x. FitsIn s d x)) made_so good) in
     let whole = done.sound.whole refl in
     subst (λ all. IsDefinition state.functions (record { name = name; parameters = all; sort = sort; rows = later.rows; nodes = later.nodes; value = v })) (sym sorts_are) (record {

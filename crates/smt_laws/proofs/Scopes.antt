@@ -21,7 +21,7 @@ use Rattle.smt_names.specs.declared.refusal.Refusal.TheVariants as refusal
 use Rattle.smt_names.specs.Value.{sort_of}
 use Rattle.smt_names.specs.Making.{Making, row, bad_form, not_in_profile, refuse_named}
 use Rattle.smt_names.specs.Names.{Scope, Declared, Defined, Named, named_by, function_of, definition_of, head_of, keep_last, last_with, bound_as, is_reserved}
-use Rattle.smt_terms.specs.Meant.{Meaning, Meant, End, Token, Group, from, first_place}
+use Rattle.smt_terms.specs.Reading.{Meaning, Reading, End, Token, Group, from, first_place}
 use Rattle.smt_terms.specs.Terms.{stood_for, free_value, name_value, token_value, value, add_value, values, truth, bind, bound_values, let_value, annotated_value}
 use Rattle.formula_draft.specs.Sorted.HasSort.{variable}
 use Rattle.smt_laws.specs.Sorted.{signatures_of}
@@ -157,13 +157,13 @@ module _ (scope : Scope) (variables : List ℕ) where
     unfolding token_value
     good_token word = good_token_by word word.kind
 
-    pub good_value : (missing : Place) (trees : Meant) → AllMean GoodMeaning trees → Good s draft (λ d v. FitsIn s d v) (value missing scope trees draft)
+    pub good_value : (missing : Place) (trees : Reading) → AllMean GoodMeaning trees → Good s draft (λ d v. FitsIn s d v) (value missing scope trees draft)
     good_value missing End all = refuses
     good_value missing (Token word trees) all = good_token word
     good_value missing (Group paren meaning inner trees) (group means within rest) = means scope variables draft sound is
 
     -- a formula
-    pub good_formula : (missing : Place) (trees : Meant) → AllMean GoodMeaning trees → Good s draft (λ d v. FitsIn s d v × (sort_of v ≡ 0)) (truth missing scope trees draft)
+    pub good_formula : (missing : Place) (trees : Reading) → AllMean GoodMeaning trees → Good s draft (λ d v. FitsIn s d v × (sort_of v ≡ 0)) (truth missing scope trees draft)
     good_formula missing trees all = good_then s draft _ (good_value missing trees all) λ v d1 k1 e1 fits.
         good_then s d1 _ (good_want s d1 (sort_of v == 0) refusal.WrongSort (first_place missing trees) k1) λ _ d2 k2 e2 bool.
         good_made s d2 v k2 (fits_later s d1 d2 e2 v fits, eq_from (sort_of v) 0 bool)
@@ -174,7 +174,7 @@ module _ (scope : Scope) (variables : List ℕ) where
       good_then s d1 _ (rest d1 k1 e1) λ args d2 k2 e2 fit.
       good_made s d2 (record { place = at; value = v } ∷ args) k2 (more (fits_later s d1 d2 e2 v fits) fit)
 
-  pub good_values : (draft : Draft) → Sound s draft → IsScope variables draft scope → (trees : Meant) → AllMean GoodMeaning trees → Good s draft (λ d args. Each (FitsArg s d) args) (values scope trees draft)
+  pub good_values : (draft : Draft) → Sound s draft → IsScope variables draft scope → (trees : Reading) → AllMean GoodMeaning trees → Good s draft (λ d args. Each (FitsArg s d) args) (values scope trees draft)
   good_values draft sound is End all = good_made s draft [] sound none
   good_values draft sound is (Token word trees) (token rest) = good_add_value draft word.place (token_value scope word) (values scope trees) (good_token draft sound is word) (λ d keeps extends. good_values d keeps (scope_later draft d extends is) trees rest)
   good_values draft sound is (Group paren meaning inner trees) (group means within rest) = good_add_value draft paren.place (meaning scope) (values scope trees) (means scope variables draft sound is) (λ d keeps extends. good_values d keeps (scope_later draft d extends is) trees rest)
@@ -183,7 +183,7 @@ module _ (scope : Scope) (variables : List ℕ) where
   abbrev pub AllStand : Draft → List Bound → Type 0
   AllStand draft bound = All (λ (b : Bound). Stood (signatures_of scope.state.functions) variables (not scope.in_definition) draft b.stands) bound
 
-  pub good_bound_values : (draft : Draft) → Sound s draft → IsScope variables draft scope → (trees : Meant) → AllMean GoodMeaning trees → Good s draft (λ d bound. AllStand d bound) (bound_values scope trees draft)
+  pub good_bound_values : (draft : Draft) → Sound s draft → IsScope variables draft scope → (trees : Reading) → AllMean GoodMeaning trees → Good s draft (λ d bound. AllStand d bound) (bound_values scope trees draft)
   good_bound_values draft sound is (Group paren meaning (Token name term) after) (group means (token within) rest) =
       good_then s draft _ (good_value draft sound is name.place term within) λ v d1 k1 e1 fits.
       good_then s d1 _ (good_bound_values d1 k1 (scope_later draft d1 e1 is) after rest) λ bound d2 k2 e2 stand.
@@ -200,7 +200,7 @@ module _ (scope : Scope) (variables : List ℕ) where
   }
 
 -- let and !
-pub good_let : (head : Place) (parts : Meant) → AllMean GoodMeaning parts → GoodMeaning (let_value head parts)
+pub good_let : (head : Place) (parts : Reading) → AllMean GoodMeaning parts → GoodMeaning (let_value head parts)
 good_let head parts all scope variables draft sound is =
     let s = setting scope variables in
     good_then s draft _ (passes_exactly s draft 2 head parts sound) λ _ d1 k1 e1 _.
@@ -210,7 +210,7 @@ good_let head parts all scope variables draft sound is =
     let is3 = scope_later scope variables d2 d3 e3 is2 in
     good_value (record scope { bound = scope.bound ++ bound }) variables d3 k3 (bound_more scope variables d3 bound is3 stand) head (from 1 parts) (from_mean 1 all)
 
-pub good_annotated : (head : Place) (parts : Meant) → AllMean GoodMeaning parts → GoodMeaning (annotated_value head parts)
+pub good_annotated : (head : Place) (parts : Reading) → AllMean GoodMeaning parts → GoodMeaning (annotated_value head parts)
 good_annotated head parts all scope variables draft sound is =
     let s = setting scope variables in
     good_then s draft _ (passes_attributes_of s draft head parts sound) λ _ d1 k1 e1 _.

@@ -9,8 +9,8 @@ use Rattle.smt_names.specs.Making.{bad_form}
 use Rattle.smt_names.specs.Names.{Scope, Named, head_of, bound_as, is_symbol}
 use Rattle.smt_terms.specs.declared.form.Form.{Form}
 use Rattle.smt_terms.specs.declared.form.Form.TheVariants.{Let, Annotated, Universal, Foreign, Application}
-use Rattle.smt_terms.specs.Meant.{Meant, End, Token, Group}
-use Rattle.smt_terms.specs.Terms.{named_value, unbound_value, form_of, form_value, list_value, meant}
+use Rattle.smt_terms.specs.Reading.{Reading, End, Token, Group}
+use Rattle.smt_terms.specs.Terms.{named_value, unbound_value, form_of, form_value, list_value, reading}
 use Rattle.smt_laws.proofs.Standing.{IsScope}
 use Rattle.smt_laws.proofs.Making.{Sound, Good, refuses, good_then}
 use Rattle.smt_laws.proofs.Values.{FitsIn}
@@ -22,7 +22,7 @@ use Rattle.smt_laws.proofs.Foralls.{good_forall}
 use Rattle.smt_laws.proofs.Rooted.{MakesValid}
 
 -- an application of a name that is not bound
-good_named : (paren : Place) (head : Word) (parts : Meant) → AllMean GoodMeaning parts → (scope : Scope) (variables : List ℕ) (draft : Draft) → Sound (setting scope variables) draft → IsScope variables draft scope
+good_named : (paren : Place) (head : Word) (parts : Reading) → AllMean GoodMeaning parts → (scope : Scope) (variables : List ℕ) (draft : Draft) → Sound (setting scope variables) draft → IsScope variables draft scope
     → {name : Named} → IsNamed (setting scope variables) name → Good (setting scope variables) draft (λ d v. FitsIn (setting scope variables) d v) (named_value paren head name parts scope draft)
 good_named paren head parts all scope variables draft sound is of_core = good_then (setting scope variables) draft _ (good_values scope variables draft sound is parts all) λ args d keeps extends fit.
     good_applied (setting scope variables) (signatures_are scope.state.functions is.declared.functions_are) paren head.place head.text d keeps of_core args fit
@@ -32,20 +32,20 @@ good_named paren head parts all scope variables draft sound is (of_definition de
     good_applied (setting scope variables) (signatures_are scope.state.functions is.declared.functions_are) paren head.place head.text d keeps (of_definition definition) args fit
 good_named paren head parts all scope variables draft sound is of_none = refuses
 
-good_unbound : (paren : Place) (head : Word) (parts : Meant) → AllMean GoodMeaning parts → (scope : Scope) (variables : List ℕ) (draft : Draft) → Sound (setting scope variables) draft → IsScope variables draft scope
+good_unbound : (paren : Place) (head : Word) (parts : Reading) → AllMean GoodMeaning parts → (scope : Scope) (variables : List ℕ) (draft : Draft) → Sound (setting scope variables) draft → IsScope variables draft scope
     → (o : Option Bound) → Good (setting scope variables) draft (λ d v. FitsIn (setting scope variables) d v) (unbound_value paren head parts o scope draft)
 good_unbound paren head parts all scope variables draft sound is (Some b) = refuses
 good_unbound paren head parts all scope variables draft sound is None = good_named paren head parts all scope variables draft sound is (named_is scope variables draft sound is (head_of scope.state head.text))
 
 module _ (valid : MakesValid) where
-  good_form : (paren : Place) (head : Word) (parts : Meant) → AllMean GoodMeaning parts → (form : Form) → GoodMeaning (form_value paren head parts form)
+  good_form : (paren : Place) (head : Word) (parts : Reading) → AllMean GoodMeaning parts → (form : Form) → GoodMeaning (form_value paren head parts form)
   good_form paren head parts all Let scope variables draft sound is = good_let head.place parts all scope variables draft sound is
   good_form paren head parts all Annotated scope variables draft sound is = good_annotated head.place parts all scope variables draft sound is
   good_form paren head parts all Universal scope variables draft sound is = good_forall valid paren head.place parts all scope variables draft sound is
   good_form paren head parts all Foreign scope variables draft sound is = refuses
   good_form paren head parts all Application scope variables draft sound is = good_unbound paren head parts all scope variables draft sound is (bound_as scope.bound head.text)
 
-  good_list : (paren : Word) (inner : Meant) → AllMean GoodMeaning inner → GoodMeaning (list_value paren inner)
+  good_list : (paren : Word) (inner : Reading) → AllMean GoodMeaning inner → GoodMeaning (list_value paren inner)
   unfolding list_value
   good_list paren End all scope variables draft sound is = refuses
   good_list paren (Group inner meaning parts trees) all scope variables draft sound is = refuses
@@ -56,8 +56,8 @@ module _ (valid : MakesValid) where
       by false = refuses
 
   -- each list of a command means what fits
-  pub all_mean : (t : trees.Trees) → AllMean GoodMeaning (meant t)
-  unfolding meant
+  pub all_mean : (t : trees.Trees) → AllMean GoodMeaning (reading t)
+  unfolding reading
   all_mean trees.End = end
   all_mean (trees.Token word after) = token (all_mean after)
-  all_mean (trees.Group paren inner after) = group (good_list paren (meant inner) (all_mean inner)) (all_mean inner) (all_mean after)
+  all_mean (trees.Group paren inner after) = group (good_list paren (reading inner) (all_mean inner)) (all_mean inner) (all_mean after)

@@ -10,9 +10,9 @@ use Rattle.smt_text.specs.Word.{Word}
 use Rattle.smt_text.specs.Trees.{Trees, End, Token, Group, ahead, before, outermost, outer}
 use Rattle.smt_text.specs.declared.token.Kind.{Kind}
 use Rattle.smt_text.specs.declared.token.Kind.TheVariants.{Left, Right, Symbol, Keyword, Numeral, Decimal, Hex, Binary, Text}
-use Rattle.smt_terms.specs.Meant as meaning
-use Rattle.smt_terms.specs.Terms.{meant, list_value, group_meant}
-use Rattle.smt_terms.specs.Cursor.{nowhere, word_at, is_left, is_right, here}
+use Rattle.smt_terms.specs.Reading as meaning
+use Rattle.smt_terms.specs.Terms.{reading, list_value, group_reading}
+use Rattle.smt_terms.specs.Cursor.{nowhere, word_at, is_left, is_right, trees_from}
 
 abbrev inner : List Word → ℕ → Trees
 inner words i = outermost (ahead (drop i words))
@@ -84,31 +84,31 @@ token_word words i token below is =
 
 -- what comes next, by the word that stands there
 module _ (words : List Word) (i : ℕ) where
-  pub here_past : length words ≤ i → here words i ≡ meaning.End
-  unfolding here meant
+  pub here_past : length words ≤ i → trees_from words i ≡ meaning.End
+  unfolding trees_from reading
   here_past past = rw (ahead_end words i past) refl
 
-  pub here_right : i < length words → is_right (word_at words i).kind ≡ true → here words i ≡ meaning.End
-  unfolding here meant
+  pub here_right : i < length words → is_right (word_at words i).kind ≡ true → trees_from words i ≡ meaning.End
+  unfolding trees_from reading
   here_right below right = rw (ahead_right words i below right) refl
 
-  pub here_token : i < length words → is_left (word_at words i).kind ≡ false → is_right (word_at words i).kind ≡ false → here words i ≡ meaning.Token (word_at words i) (here words (i + 1))
-  unfolding here meant
+  pub here_token : i < length words → is_left (word_at words i).kind ≡ false → is_right (word_at words i).kind ≡ false → trees_from words i ≡ meaning.Token (word_at words i) (trees_from words (i + 1))
+  unfolding trees_from reading
   here_token below left right = rw (ahead_token words i below left right) refl
 
   pub here_list : (after : ℕ) → i < length words → is_left (word_at words i).kind ≡ true → outermost (ahead (drop after words)) ≡ outermost (outer (ahead (drop (i + 1) words)))
-      → here words i ≡ meaning.Group (word_at words i) (list_value (word_at words i) (here words (i + 1))) (here words (i + 1)) (here words after)
-  unfolding here meant
-  here_list after below left e = rw (ahead_left words i below left) (ap (λ (t : Trees). group_meant (word_at words i) (meant (inner words (i + 1))) (meant t)) (sym e))
+      → trees_from words i ≡ meaning.Group (word_at words i) (list_value (word_at words i) (trees_from words (i + 1))) (trees_from words (i + 1)) (trees_from words after)
+  unfolding trees_from reading
+  here_list after below left e = rw (ahead_left words i below left) (ap (λ (t : Trees). group_reading (word_at words i) (reading (inner words (i + 1))) (reading t)) (sym e))
 
 -- one tree more is passed
-pub from_more : (n : ℕ) (trees : meaning.Meant) → meaning.from (n + 1) trees ≡ meaning.from 1 (meaning.from n trees)
+pub from_more : (n : ℕ) (trees : meaning.Reading) → meaning.from (n + 1) trees ≡ meaning.from 1 (meaning.from n trees)
 from_more n trees = ap (λ (k : ℕ). meaning.from k trees) one ∙ by n trees
   where
     one : n + 1 ≡ suc n
     one = omega arith
 
-    by : (n : ℕ) (trees : meaning.Meant) → meaning.from (suc n) trees ≡ meaning.from 1 (meaning.from n trees)
+    by : (n : ℕ) (trees : meaning.Reading) → meaning.from (suc n) trees ≡ meaning.from 1 (meaning.from n trees)
     by zero trees = refl
     by (suc n) meaning.End = refl
     by (suc n) (meaning.Token word trees) = by n trees

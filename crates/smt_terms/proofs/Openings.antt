@@ -24,9 +24,9 @@ use Rattle.smt_terms.specs.declared.inside.Inside.{Inside}
 use Rattle.smt_terms.specs.declared.opened.Opened.{Opened}
 use Rattle.smt_terms.specs.declared.opened.Opened.TheVariants as opened
 use Rattle.smt_terms.specs.declared.next.Next.TheVariants as step
-use Rattle.smt_terms.specs.Meant.{Meant, Meaning, End, Token, Group, Listed, from, exactly, some_bindings, attributes_of}
+use Rattle.smt_terms.specs.Reading.{Reading, Meaning, End, Token, Group, Listed, from, exactly, some_bindings, attributes_of}
 use Rattle.smt_terms.specs.Terms.{value, values, bound_values, form_of, form_value, let_value, annotated_value, named_value, list_value, forall_value}
-use Rattle.smt_terms.specs.Cursor.{word_at, here, SeesList}
+use Rattle.smt_terms.specs.Cursor.{word_at, trees_from, SeesList}
 use Rattle.smt_terms.specs.Checks.{HasBindings}
 use Rattle.smt_forms.specs.Applied.{applied}
 use Rattle.smt_terms.specs.Machine.{with_bound, binds, binds_in, finish, resume, weight, load, base_of, scope_of, work_in, GoesOn, Opens, OpensForall}
@@ -45,36 +45,36 @@ refuses_same (stop.Refused fault) first whole goes_on refused = goes_on fault re
 module _ (words : List Word) (i after : ℕ) (state : State) (inside : Inside) (old new : List Frame) (bound : List Bound) (paren head : Place)
     (at_paren : paren ≡ (word_at words i).place) (at_head : head ≡ (word_at words (i + 1)).place) where
   -- a let whose form is right means its bindings and its body
-  let_means : (body : ℕ) (scope : Scope) (draft : Draft) → exactly 2 head (here words (i + 2)) draft ≡ Ok (tt {0}, draft)
-      → some_bindings head (here words (i + 2)) draft ≡ Ok (record { paren = word_at words (i + 2); inner = here words (i + 2 + 1) }, draft) → SeesList words (i + 2) body
-      → let_value head (here words (i + 2)) scope draft ≡ binds words scope head [] (i + 2 + 1) body draft
+  let_means : (body : ℕ) (scope : Scope) (draft : Draft) → exactly 2 head (trees_from words (i + 2)) draft ≡ Ok (tt {0}, draft)
+      → some_bindings head (trees_from words (i + 2)) draft ≡ Ok (record { paren = word_at words (i + 2); inner = trees_from words (i + 2 + 1) }, draft) → SeesList words (i + 2) body
+      → let_value head (trees_from words (i + 2)) scope draft ≡ binds words scope head [] (i + 2 + 1) body draft
   let_means body scope draft two listed sees =
       ap (then_from (λ (_ : Unit {0}). bindings)) two ∙ ap (then_from after_bindings) listed
-      ∙ ap (λ (trees : Meant). then_from (λ (names : List Bound). value head (with_bound scope names) trees) (bound_values scope (here words (i + 2 + 1)) draft)) (ap (from 1) sees.is)
+      ∙ ap (λ (trees : Reading). then_from (λ (names : List Bound). value head (with_bound scope names) trees) (bound_values scope (trees_from words (i + 2 + 1)) draft)) (ap (from 1) sees.is)
     where
       after_bindings : Listed → Making Value
-      after_bindings found = bound_values scope found.inner >>= λ (names : List Bound). value head (with_bound scope names) (from 1 (here words (i + 2)))
+      after_bindings found = bound_values scope found.inner >>= λ (names : List Bound). value head (with_bound scope names) (from 1 (trees_from words (i + 2)))
 
       bindings : Making Value
-      bindings = some_bindings head (here words (i + 2)) >>= after_bindings
+      bindings = some_bindings head (trees_from words (i + 2)) >>= after_bindings
 
-  pub opens_let : (body j : ℕ) (later none : List Bound) → none ≡ [] → ((draft : Draft) → exactly 2 head (here words (i + 2)) draft ≡ Ok (tt {0}, draft)) → HasBindings words (i + 2) head (Ok body)
+  pub opens_let : (body j : ℕ) (later none : List Bound) → none ≡ [] → ((draft : Draft) → exactly 2 head (trees_from words (i + 2)) draft ≡ Ok (tt {0}, draft)) → HasBindings words (i + 2) head (Ok body)
       → ((state : State) (inside : Inside) (missing : Place) (draft : Draft) → GoesOn words state inside missing new later draft (base_of (reverse old) bound)
-      (1 + weight words (here words (i + 2 + 1)) + weight words (here words body) + weight words (here words after) + load words (reverse old)) (step.At j) (binds_in words old bound paren head after none (i + 2 + 1) body state inside draft))
-      → Opens words state inside old bound new later i after (3 + work_in words old (i + 2) after) (let_value (word_at words (i + 1)).place (here words (i + 2))) (Ok (opened.At j))
+      (1 + weight words (trees_from words (i + 2 + 1)) + weight words (trees_from words body) + weight words (trees_from words after) + load words (reverse old)) (step.At j) (binds_in words old bound paren head after none (i + 2 + 1) body state inside draft))
+      → Opens words state inside old bound new later i after (3 + work_in words old (i + 2) after) (let_value (word_at words (i + 1)).place (trees_from words (i + 2))) (Ok (opened.At j))
   unfolding weight
   opens_let body j later none empty two has goes missing draft =
-      let g = subst (λ (ns : List Bound). GoesOn words state inside missing new later draft (base_of (reverse old) bound) (1 + weight words (here words (i + 2 + 1)) + weight words (here words body) + weight words (here words after) + load words (reverse old)) (step.At j) (binds_in words old bound paren head after ns (i + 2 + 1) body state inside draft)) empty (goes state inside missing draft) in
-      let w : weight words (here words (i + 2)) ≡ 3 + weight words (here words (i + 2 + 1)) + weight words (here words body) = ap (weight words) has.0.is in
+      let g = subst (λ (ns : List Bound). GoesOn words state inside missing new later draft (base_of (reverse old) bound) (1 + weight words (trees_from words (i + 2 + 1)) + weight words (trees_from words body) + weight words (trees_from words after) + load words (reverse old)) (step.At j) (binds_in words old bound paren head after ns (i + 2 + 1) body state inside draft)) empty (goes state inside missing draft) in
+      let w : weight words (trees_from words (i + 2)) ≡ 3 + weight words (trees_from words (i + 2 + 1)) + weight words (trees_from words body) = ap (weight words) has.0.is in
       rw (← at_paren, ← at_head) (
-        ap (then_from (λ (v : Value). finish words (scope_of state inside bound) (reverse old) (here words after) paren v)) (let_means body (scope_of state inside bound) draft (two draft) (has.1 draft) has.0) ∙ g.0,
+        ap (then_from (λ (v : Value). finish words (scope_of state inside bound) (reverse old) (trees_from words after) paren v)) (let_means body (scope_of state inside bound) draft (two draft) (has.1 draft) has.0) ∙ g.0,
         omega (arith, g.1, w),
         g.2,
       )
 
-  pub opens_annotated : (n : ℕ) → n ≡ length bound → ((draft : Draft) → attributes_of head (here words (i + 2)) draft ≡ Ok (tt {0}, draft))
+  pub opens_annotated : (n : ℕ) → n ≡ length bound → ((draft : Draft) → attributes_of head (trees_from words (i + 2)) draft ≡ Ok (tt {0}, draft))
       → new ≡ old ++ record { paren = paren; head = head; after = after; work = Pass n } ∷ []
-      → Opens words state inside old bound new bound i after (3 + work_in words old (i + 2) after) (annotated_value (word_at words (i + 1)).place (here words (i + 2))) (Ok (opened.At (i + 2)))
+      → Opens words state inside old bound new bound i after (3 + work_in words old (i + 2) after) (annotated_value (word_at words (i + 1)).place (trees_from words (i + 2))) (Ok (opened.At (i + 2)))
   unfolding weight load base_of
   opens_annotated n count attributes is missing draft =
       let f : Frame = record { paren = paren; head = head; after = after; work = Pass n } in
@@ -82,14 +82,14 @@ module _ (words : List Word) (i after : ℕ) (state : State) (inside : Inside) (
       let top = pushed old new f is in
       let all : take n bound ≡ bound = ap (λ (k : ℕ). take k bound) count ∙ take-length bound in
       rw (← at_paren, ← at_head) (
-        list_begins words missing scope scope (reverse old) f (here words (i + 2)) (annotated_value head (here words (i + 2)) scope draft) draft (ap (scope_of state inside) all)
-            (ap (then_from (λ (_ : Unit {0}). value head scope (here words (i + 2)))) (attributes draft))
-            ∙ sym (ap (λ (fs : List Frame). resume words missing scope fs (here words (i + 2)) draft) top),
+        list_begins words missing scope scope (reverse old) f (trees_from words (i + 2)) (annotated_value head (trees_from words (i + 2)) scope draft) draft (ap (scope_of state inside) all)
+            (ap (then_from (λ (_ : Unit {0}). value head scope (trees_from words (i + 2)))) (attributes draft))
+            ∙ sym (ap (λ (fs : List Frame). resume words missing scope fs (trees_from words (i + 2)) draft) top),
         rw top (omega arith),
         rw top (ap (base_of (reverse old)) all),
       )
 
-  known_value : (w : Word) (name : Named) (parts : Meant) (scope : Scope) (draft : Draft) → is_known name ≡ true
+  known_value : (w : Word) (name : Named) (parts : Reading) (scope : Scope) (draft : Draft) → is_known name ≡ true
       → named_value paren w name parts scope draft ≡ then_from (λ (args : List Arg). applied paren w.place w.text name args) (values scope parts draft)
   known_value w (Core c) parts scope draft known = refl
   known_value w (Function symbol f) parts scope draft known = refl
@@ -99,7 +99,7 @@ module _ (words : List Word) (i after : ℕ) (state : State) (inside : Inside) (
   pub opens_application : (called : Head) (args : Vec Arg Global) → bound_as bound (word_at words (i + 1)).text ≡ None → called ≡ head_of state (word_at words (i + 1)).text
       → is_known (named_by state called) ≡ true → args.items ≡ []
       → new ≡ old ++ record { paren = paren; head = head; after = after; work = Apply (i + 1) called args } ∷ []
-      → Opens words state inside old bound new bound i after (3 + work_in words old (i + 2) after) (form_value (word_at words i).place (word_at words (i + 1)) (here words (i + 2)) form.Application) (Ok (opened.At (i + 2)))
+      → Opens words state inside old bound new bound i after (3 + work_in words old (i + 2) after) (form_value (word_at words i).place (word_at words (i + 1)) (trees_from words (i + 2)) form.Application) (Ok (opened.At (i + 2)))
   unfolding weight load base_of
   opens_application called args free stands known none is missing draft =
       let f : Frame = record { paren = paren; head = head; after = after; work = Apply (i + 1) called args } in
@@ -107,11 +107,11 @@ module _ (words : List Word) (i after : ℕ) (state : State) (inside : Inside) (
       let scope = scope_of state inside bound in
       let top = pushed old new f is in
       rw (← at_paren, free) (
-        list_begins words missing scope scope (reverse old) f (here words (i + 2)) (named_value paren w (named state w.text) (here words (i + 2)) scope draft) draft refl
-            (ap (λ (h : Head). named_value paren w (named_by state h) (here words (i + 2)) scope draft) (sym stands) ∙ known_value w (named_by state called) (here words (i + 2)) scope draft known
-            ∙ ap (λ (at : Place). then_from (λ (more : List Arg). applied paren at w.text (named_by state called) more) (values scope (here words (i + 2)) draft)) (sym at_head)
-            ∙ ap (λ (all : List Arg). then_from (λ (more : List Arg). applied paren head w.text (named_by state called) (all ++ more)) (values scope (here words (i + 2)) draft)) (sym none))
-            ∙ sym (ap (λ (fs : List Frame). resume words missing scope fs (here words (i + 2)) draft) top),
+        list_begins words missing scope scope (reverse old) f (trees_from words (i + 2)) (named_value paren w (named state w.text) (trees_from words (i + 2)) scope draft) draft refl
+            (ap (λ (h : Head). named_value paren w (named_by state h) (trees_from words (i + 2)) scope draft) (sym stands) ∙ known_value w (named_by state called) (trees_from words (i + 2)) scope draft known
+            ∙ ap (λ (at : Place). then_from (λ (more : List Arg). applied paren at w.text (named_by state called) more) (values scope (trees_from words (i + 2)) draft)) (sym at_head)
+            ∙ ap (λ (all : List Arg). then_from (λ (more : List Arg). applied paren head w.text (named_by state called) (all ++ more)) (values scope (trees_from words (i + 2)) draft)) (sym none))
+            ∙ sym (ap (λ (fs : List Frame). resume words missing scope fs (trees_from words (i + 2)) draft) top),
         rw top (omega arith),
         rw top refl,
       )
@@ -122,16 +122,16 @@ same_meaning a b same = fun_ext (λ scope. fun_ext (λ draft. same scope draft))
 
 -- a list whose head is a symbol is its form
 pub opens_symbol : (words : List Word) (state : State) (inside : Inside) (old : List Frame) (bound : List Bound) (new : List Frame) (later : List Bound) (i after : ℕ) (r : Result Opened Stop)
-    → here words (i + 1) ≡ Token (word_at words (i + 1)) (here words (i + 2)) → is_symbol (word_at words (i + 1)).kind ≡ true
-    → Opens words state inside old bound new later i after (3 + work_in words old (i + 2) after) (form_value (word_at words i).place (word_at words (i + 1)) (here words (i + 2)) (form_of (word_at words (i + 1)).text)) r
-    → Opens words state inside old bound new later i after (2 + work_in words old (i + 1) after) (list_value (word_at words i) (here words (i + 1))) r
+    → trees_from words (i + 1) ≡ Token (word_at words (i + 1)) (trees_from words (i + 2)) → is_symbol (word_at words (i + 1)).kind ≡ true
+    → Opens words state inside old bound new later i after (3 + work_in words old (i + 2) after) (form_value (word_at words i).place (word_at words (i + 1)) (trees_from words (i + 2)) (form_of (word_at words (i + 1)).text)) r
+    → Opens words state inside old bound new later i after (2 + work_in words old (i + 1) after) (list_value (word_at words i) (trees_from words (i + 1))) r
 unfolding weight list_value
 opens_symbol words state inside old bound new later i after r is symbol opens =
-    opens_as words state inside old bound new later i after (2 + work_in words old (i + 1) after) (form_value (word_at words i).place (word_at words (i + 1)) (here words (i + 2)) (form_of (word_at words (i + 1)).text)) (list_value (word_at words i) (here words (i + 1))) r
+    opens_as words state inside old bound new later i after (2 + work_in words old (i + 1) after) (form_value (word_at words i).place (word_at words (i + 1)) (trees_from words (i + 2)) (form_of (word_at words (i + 1)).text)) (list_value (word_at words i) (trees_from words (i + 1))) r
     (same_meaning _ _ same)
-    (subst (λ (n : ℕ). Opens words state inside old bound new later i after n (form_value (word_at words i).place (word_at words (i + 1)) (here words (i + 2)) (form_of (word_at words (i + 1)).text)) r) less opens)
+    (subst (λ (n : ℕ). Opens words state inside old bound new later i after n (form_value (word_at words i).place (word_at words (i + 1)) (trees_from words (i + 2)) (form_of (word_at words (i + 1)).text)) r) less opens)
   where
-    same : (scope : Scope) (draft : Draft) → list_value (word_at words i) (here words (i + 1)) scope draft ≡ form_value (word_at words i).place (word_at words (i + 1)) (here words (i + 2)) (form_of (word_at words (i + 1)).text) scope draft
+    same : (scope : Scope) (draft : Draft) → list_value (word_at words i) (trees_from words (i + 1)) scope draft ≡ form_value (word_at words i).place (word_at words (i + 1)) (trees_from words (i + 2)) (form_of (word_at words (i + 1)).text) scope draft
     same scope draft = rw (is, symbol) refl
 
     less : 3 + work_in words old (i + 2) after ≡ 2 + work_in words old (i + 1) after
@@ -139,28 +139,28 @@ opens_symbol words state inside old bound new later i after r is symbol opens =
 
 -- a forall
 pub opens_forall : (words : List Word) (state : State) (inside : Inside) (frames : List Frame) (bound : List Bound) (i after most : ℕ) (meaning : Meaning) (r : Result Opened Stop)
-    → meaning ≡ forall_value (word_at words i).place (word_at words (i + 1)).place (here words (i + 2)) → OpensForall words inside i r → Opens words state inside frames bound frames bound i after most meaning r
+    → meaning ≡ forall_value (word_at words i).place (word_at words (i + 1)).place (trees_from words (i + 2)) → OpensForall words inside i r → Opens words state inside frames bound frames bound i after most meaning r
 opens_forall words state inside frames bound i after most meaning (Ok (opened.At j)) means opens = absurd opens
 opens_forall words state inside frames bound i after most meaning (Ok opened.Universal) means opens = (record { no_forall = opens.0; no_definition = opens.1; means = means }, refl, refl)
 opens_forall words state inside frames bound i after most meaning (Err stopped) means opens = λ draft.
     refuses_same stopped _ _ (λ fault e. ap (λ (m : Meaning). m (scope_of state inside bound) draft) means ∙ e) (opens state bound (word_at words i).place draft)
 
 -- lists that are refused at once
-module _ (w : Word) (trees : Meant) (scope : Scope) (draft : Draft) where
+module _ (w : Word) (trees : Reading) (scope : Scope) (draft : Draft) where
   pub empty_list : trees ≡ End → list_value w trees scope draft ≡ Err (fault_of refusal.BadForm w.place [])
   unfolding list_value
   empty_list is = rw is refl
 
-  pub list_head : (p : Word) (meaning : Meaning) (inner rest : Meant) → trees ≡ Group p meaning inner rest → list_value w trees scope draft ≡ Err (fault_of refusal.NotInProfile p.place [])
+  pub list_head : (p : Word) (meaning : Meaning) (inner rest : Reading) → trees ≡ Group p meaning inner rest → list_value w trees scope draft ≡ Err (fault_of refusal.NotInProfile p.place [])
   unfolding list_value
   list_head p meaning inner rest is = rw is refl
 
-  pub no_symbol : (h : Word) (rest : Meant) → trees ≡ Token h rest → is_symbol h.kind ≡ false → list_value w trees scope draft ≡ Err (fault_of refusal.BadForm h.place [])
+  pub no_symbol : (h : Word) (rest : Reading) → trees ≡ Token h rest → is_symbol h.kind ≡ false → list_value w trees scope draft ≡ Err (fault_of refusal.BadForm h.place [])
   unfolding list_value
   no_symbol h rest is other = rw (is, other) refl
 
 -- a let whose form is refused
-module _ (stopped : Stop) (head : Place) (parts : Meant) (scope : Scope) where
+module _ (stopped : Stop) (head : Place) (parts : Reading) (scope : Scope) where
   let_ends : Listed → Making Value
   let_ends found = bound_values scope found.inner >>= λ (names : List Bound). value head (with_bound scope names) (from 1 parts)
 

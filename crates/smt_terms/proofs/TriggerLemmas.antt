@@ -12,10 +12,10 @@ use Rattle.smt_names.specs.declared.refusal.Refusal.TheVariants as refusal
 use Rattle.smt_names.specs.Making.{Making, made, then_from, ◌>>◌, ◌>>=◌}
 use Rattle.smt_names.specs.Makes.{Refuses, Checks}
 use Rattle.smt_names.specs.Names.{Scope}
-use Rattle.smt_terms.specs.Meant.{Meant, Meaning, End, Token, Group, from, at_least, no_more}
+use Rattle.smt_terms.specs.Reading.{Reading, Meaning, End, Token, Group, from, at_least, no_more}
 use Rattle.smt_terms.specs.Terms.{Attribute, value, pattern_root, pattern_roots, add_root, trigger, triggers, some_trigger}
 use Rattle.smt_terms.specs.Triggers.{SeesTree, HasNumber, HasPatterns, numbered_trigger, listed_trigger}
-use Rattle.smt_terms.specs.Cursor.{word_at, here, SeesToken, SeesList}
+use Rattle.smt_terms.specs.Cursor.{word_at, trees_from, SeesToken, SeesList}
 use Rattle.smt_terms.specs.Bodies.{attribute_at, attributes_at}
 use Rattle.smt_terms.proofs.CheckLemmas.{refuses_all, refuses_first, weighs_token, weighs_list}
 
@@ -36,80 +36,80 @@ items_next so_far more x (Ok r) all = ap (λ items. Ok (items ++ r.0, r.1)) all 
 items_next so_far more x (Err fault) all = refl
 
 -- a tree among patterns
-roots_token : (scope : Scope) (w : Word) (trees rest : Meant) → trees ≡ Token w rest → pattern_roots scope trees ≡ add_root (pattern_root w.place (value w.place scope trees)) (pattern_roots scope rest)
+roots_token : (scope : Scope) (w : Word) (trees rest : Reading) → trees ≡ Token w rest → pattern_roots scope trees ≡ add_root (pattern_root w.place (value w.place scope trees)) (pattern_roots scope rest)
 roots_token scope w trees rest is = rw is refl
 
-roots_list : (scope : Scope) (p : Word) (meaning : Meaning) (inner trees rest : Meant) → trees ≡ Group p meaning inner rest → pattern_roots scope trees ≡ add_root (pattern_root p.place (value p.place scope trees)) (pattern_roots scope rest)
+roots_list : (scope : Scope) (p : Word) (meaning : Meaning) (inner trees rest : Reading) → trees ≡ Group p meaning inner rest → pattern_roots scope trees ≡ add_root (pattern_root p.place (value p.place scope trees)) (pattern_roots scope rest)
 roots_list scope p meaning inner trees rest is = rw is refl
 
 pub sees_one : (words : List Word) (i : ℕ) → SeesToken words i → SeesTree words i (i + 1)
 sees_one words i sees = record {
-  roots = λ scope draft. ap (λ (m : Making (List ℕ)). m draft) (roots_token scope (word_at words i) (here words i) (here words (i + 1)) sees.is);
-  less = weighs_token words (word_at words i) (here words i) (here words (i + 1)) sees.is;
+  roots = λ scope draft. ap (λ (m : Making (List ℕ)). m draft) (roots_token scope (word_at words i) (trees_from words i) (trees_from words (i + 1)) sees.is);
+  less = weighs_token words (word_at words i) (trees_from words i) (trees_from words (i + 1)) sees.is;
 }
 
 pub sees_list : (words : List Word) (i after : ℕ) → SeesList words i after → SeesTree words i after
 sees_list words i after sees = record {
-  roots = λ scope draft. ap (λ (m : Making (List ℕ)). m draft) (roots_list scope (word_at words i) _ (here words (i + 1)) (here words i) (here words after) sees.is);
-  less = weighs_list words (word_at words i) _ (here words (i + 1)) (here words i) (here words after) sees.is;
+  roots = λ scope draft. ap (λ (m : Making (List ℕ)). m draft) (roots_list scope (word_at words i) _ (trees_from words (i + 1)) (trees_from words i) (trees_from words after) sees.is);
+  less = weighs_list words (word_at words i) _ (trees_from words (i + 1)) (trees_from words i) (trees_from words after) sees.is;
 }
 
 module _ (words : List Word) (scope : Scope) (i after : ℕ) (sees : SeesTree words i after) where
   first : Making ℕ
-  first = pattern_root (word_at words i).place (value (word_at words i).place scope (here words i))
+  first = pattern_root (word_at words i).place (value (word_at words i).place scope (trees_from words i))
 
   -- a root more is put last
-  pub root_next : (so_far more : List ℕ) (root : ℕ) (draft later : Draft) → pattern_root (word_at words i).place (value (word_at words i).place scope (here words i)) draft ≡ Ok (root, later) → more ≡ so_far ++ root ∷ []
-      → behind_items more (pattern_roots scope (here words after) later) ≡ behind_items so_far (pattern_roots scope (here words i) draft)
-  root_next so_far more root draft later is all = items_next so_far more root (pattern_roots scope (here words after) later) all
-      ∙ sym (ap (behind_items so_far) (sees.roots scope draft ∙ ap (then_from (λ (r : ℕ). pattern_roots scope (here words after) >>= λ (rs : List ℕ). made (r ∷ rs))) is))
+  pub root_next : (so_far more : List ℕ) (root : ℕ) (draft later : Draft) → pattern_root (word_at words i).place (value (word_at words i).place scope (trees_from words i)) draft ≡ Ok (root, later) → more ≡ so_far ++ root ∷ []
+      → behind_items more (pattern_roots scope (trees_from words after) later) ≡ behind_items so_far (pattern_roots scope (trees_from words i) draft)
+  root_next so_far more root draft later is all = items_next so_far more root (pattern_roots scope (trees_from words after) later) all
+      ∙ sym (ap (behind_items so_far) (sees.roots scope draft ∙ ap (then_from (λ (r : ℕ). pattern_roots scope (trees_from words after) >>= λ (rs : List ℕ). made (r ∷ rs))) is))
 
-  pub root_refused : (stopped : Stop) (so_far : List ℕ) (draft : Draft) (whole : Result (List ℕ × Draft) SyntaxFault) → behind_items so_far (pattern_roots scope (here words i) draft) ≡ whole
-      → Refuses stopped (pattern_root (word_at words i).place (value (word_at words i).place scope (here words i)) draft) → Refuses stopped whole
+  pub root_refused : (stopped : Stop) (so_far : List ℕ) (draft : Draft) (whole : Result (List ℕ × Draft) SyntaxFault) → behind_items so_far (pattern_roots scope (trees_from words i) draft) ≡ whole
+      → Refuses stopped (pattern_root (word_at words i).place (value (word_at words i).place scope (trees_from words i)) draft) → Refuses stopped whole
   root_refused stopped so_far draft whole same = refuses_all stopped _ whole
-      (λ fault e. sym same ∙ ap (behind_items so_far) (sees.roots scope draft ∙ ap (then_from (λ (r : ℕ). pattern_roots scope (here words after) >>= λ (rs : List ℕ). made (r ∷ rs))) e))
+      (λ fault e. sym same ∙ ap (behind_items so_far) (sees.roots scope draft ∙ ap (then_from (λ (r : ℕ). pattern_roots scope (trees_from words after) >>= λ (rs : List ℕ). made (r ∷ rs))) e))
 
-pub roots_end : (words : List Word) (scope : Scope) (i : ℕ) (draft : Draft) → here words i ≡ End → pattern_roots scope (here words i) draft ≡ Ok ([], draft)
-roots_end words scope i draft ends = ap (λ (t : Meant). pattern_roots scope t draft) ends
+pub roots_end : (words : List Word) (scope : Scope) (i : ℕ) (draft : Draft) → trees_from words i ≡ End → pattern_roots scope (trees_from words i) draft ≡ Ok ([], draft)
+roots_end words scope i draft ends = ap (λ (t : Reading). pattern_roots scope t draft) ends
 
 -- the number of patterns
-pub number_refused : (words : List Word) (i : ℕ) (paren : Place) (stopped : Stop) → ((draft : Draft) → Refuses stopped (at_least 1 paren (here words i) draft)) → HasNumber words i paren (Err stopped)
-number_refused words i paren stopped refused = λ scope variables. refuses_first stopped (at_least 1 paren (here words i)) (λ (_ : Unit {0}). no_more refusal.TooManyPatterns (from 16 (here words i)) >> listed_trigger scope variables paren (here words i)) refused
+pub number_refused : (words : List Word) (i : ℕ) (paren : Place) (stopped : Stop) → ((draft : Draft) → Refuses stopped (at_least 1 paren (trees_from words i) draft)) → HasNumber words i paren (Err stopped)
+number_refused words i paren stopped refused = λ scope variables. refuses_first stopped (at_least 1 paren (trees_from words i)) (λ (_ : Unit {0}). no_more refusal.TooManyPatterns (from 16 (trees_from words i)) >> listed_trigger scope variables paren (trees_from words i)) refused
 
-pub number_checked : (words : List Word) (i : ℕ) (paren : Place) (rest : Meant) (result : Result (Unit {0}) Stop) → rest ≡ from 16 (here words i) → ((draft : Draft) → at_least 1 paren (here words i) draft ≡ Ok (tt {0}, draft))
+pub number_checked : (words : List Word) (i : ℕ) (paren : Place) (rest : Reading) (result : Result (Unit {0}) Stop) → rest ≡ from 16 (trees_from words i) → ((draft : Draft) → at_least 1 paren (trees_from words i) draft ≡ Ok (tt {0}, draft))
     → Checks result (no_more refusal.TooManyPatterns rest) → HasNumber words i paren result
 number_checked words i paren rest (Ok done) behind least few = λ scope variables draft.
-    ap (then_from (λ (_ : Unit {0}). no_more refusal.TooManyPatterns (from 16 (here words i)) >> listed_trigger scope variables paren (here words i))) (least draft)
-    ∙ ap (then_from (λ (_ : Unit {0}). listed_trigger scope variables paren (here words i))) (ap (λ (t : Meant). no_more refusal.TooManyPatterns t draft) (sym behind) ∙ few draft)
-number_checked words i paren rest (Err stopped) behind least few = λ scope variables draft. refuses_all stopped _ (numbered_trigger scope variables paren (here words i) draft)
-    (λ fault e. ap (then_from (λ (_ : Unit {0}). no_more refusal.TooManyPatterns (from 16 (here words i)) >> listed_trigger scope variables paren (here words i))) (least draft)
-    ∙ ap (then_from (λ (_ : Unit {0}). listed_trigger scope variables paren (here words i))) (ap (λ (t : Meant). no_more refusal.TooManyPatterns t draft) (sym behind) ∙ e)) (few draft)
+    ap (then_from (λ (_ : Unit {0}). no_more refusal.TooManyPatterns (from 16 (trees_from words i)) >> listed_trigger scope variables paren (trees_from words i))) (least draft)
+    ∙ ap (then_from (λ (_ : Unit {0}). listed_trigger scope variables paren (trees_from words i))) (ap (λ (t : Reading). no_more refusal.TooManyPatterns t draft) (sym behind) ∙ few draft)
+number_checked words i paren rest (Err stopped) behind least few = λ scope variables draft. refuses_all stopped _ (numbered_trigger scope variables paren (trees_from words i) draft)
+    (λ fault e. ap (then_from (λ (_ : Unit {0}). no_more refusal.TooManyPatterns (from 16 (trees_from words i)) >> listed_trigger scope variables paren (trees_from words i))) (least draft)
+    ∙ ap (then_from (λ (_ : Unit {0}). listed_trigger scope variables paren (trees_from words i))) (ap (λ (t : Reading). no_more refusal.TooManyPatterns t draft) (sym behind) ∙ e)) (few draft)
 
 -- the list behind a keyword
-list_means : (scope : Scope) (variables : List Bound) (key p : Word) (meaning : Meaning) (inner behind trees : Meant) (draft : Draft) → trees ≡ Group p meaning inner behind
+list_means : (scope : Scope) (variables : List Bound) (key p : Word) (meaning : Meaning) (inner behind trees : Reading) (draft : Draft) → trees ≡ Group p meaning inner behind
     → trigger scope variables (record { key = key; behind = trees }) draft ≡ numbered_trigger scope variables p.place inner draft
-list_means scope variables key p meaning inner behind trees draft is = ap (λ (t : Meant). trigger scope variables (record { key = key; behind = t }) draft) is
+list_means scope variables key p meaning inner behind trees draft is = ap (λ (t : Reading). trigger scope variables (record { key = key; behind = t }) draft) is
 
 pub patterns_listed : (words : List Word) (key after : ℕ) (paren : Place) (result : Result (Unit {0}) Stop) → paren ≡ (word_at words (key + 1)).place → SeesList words (key + 1) after
     → HasNumber words (key + 2) paren result → HasPatterns words key result
 patterns_listed words key after paren (Ok done) at sees few = λ scope variables draft.
-    listed_so scope variables draft ∙ few scope variables draft ∙ ap (λ (p : Place). listed_trigger scope variables p (here words (key + 2)) draft) at
+    listed_so scope variables draft ∙ few scope variables draft ∙ ap (λ (p : Place). listed_trigger scope variables p (trees_from words (key + 2)) draft) at
   where
     two : key + 1 + 1 ≡ key + 2
     two = omega arith
 
-    listed_so : (scope : Scope) (variables : List Bound) (draft : Draft) → trigger scope variables (attribute_at words key) draft ≡ numbered_trigger scope variables paren (here words (key + 2)) draft
-    listed_so scope variables draft = list_means scope variables (word_at words key) (word_at words (key + 1)) _ (here words (key + 1 + 1)) (here words after) (here words (key + 1)) draft sees.is
-        ∙ ap (λ (n : ℕ). numbered_trigger scope variables (word_at words (key + 1)).place (here words n) draft) two ∙ ap (λ (p : Place). numbered_trigger scope variables p (here words (key + 2)) draft) (sym at)
+    listed_so : (scope : Scope) (variables : List Bound) (draft : Draft) → trigger scope variables (attribute_at words key) draft ≡ numbered_trigger scope variables paren (trees_from words (key + 2)) draft
+    listed_so scope variables draft = list_means scope variables (word_at words key) (word_at words (key + 1)) _ (trees_from words (key + 1 + 1)) (trees_from words after) (trees_from words (key + 1)) draft sees.is
+        ∙ ap (λ (n : ℕ). numbered_trigger scope variables (word_at words (key + 1)).place (trees_from words n) draft) two ∙ ap (λ (p : Place). numbered_trigger scope variables p (trees_from words (key + 2)) draft) (sym at)
 patterns_listed words key after paren (Err stopped) at sees few = λ scope variables draft.
-    refuses_all stopped (numbered_trigger scope variables paren (here words (key + 2)) draft) (trigger scope variables (attribute_at words key) draft) (λ fault e. listed_so scope variables draft ∙ e) (few scope variables draft)
+    refuses_all stopped (numbered_trigger scope variables paren (trees_from words (key + 2)) draft) (trigger scope variables (attribute_at words key) draft) (λ fault e. listed_so scope variables draft ∙ e) (few scope variables draft)
   where
     two : key + 1 + 1 ≡ key + 2
     two = omega arith
 
-    listed_so : (scope : Scope) (variables : List Bound) (draft : Draft) → trigger scope variables (attribute_at words key) draft ≡ numbered_trigger scope variables paren (here words (key + 2)) draft
-    listed_so scope variables draft = list_means scope variables (word_at words key) (word_at words (key + 1)) _ (here words (key + 1 + 1)) (here words after) (here words (key + 1)) draft sees.is
-        ∙ ap (λ (n : ℕ). numbered_trigger scope variables (word_at words (key + 1)).place (here words n) draft) two ∙ ap (λ (p : Place). numbered_trigger scope variables p (here words (key + 2)) draft) (sym at)
+    listed_so : (scope : Scope) (variables : List Bound) (draft : Draft) → trigger scope variables (attribute_at words key) draft ≡ numbered_trigger scope variables paren (trees_from words (key + 2)) draft
+    listed_so scope variables draft = list_means scope variables (word_at words key) (word_at words (key + 1)) _ (trees_from words (key + 1 + 1)) (trees_from words after) (trees_from words (key + 1)) draft sees.is
+        ∙ ap (λ (n : ℕ). numbered_trigger scope variables (word_at words (key + 1)).place (trees_from words n) draft) two ∙ ap (λ (p : Place). numbered_trigger scope variables p (trees_from words (key + 2)) draft) (sym at)
 
 -- the keyword that comes next
 pub keys_next : (words : List Word) (keys : List ℕ) (i key : ℕ) → i < length keys → get_or keys i 0 ≡ key → attributes_at words (drop i keys) ≡ attribute_at words key ∷ attributes_at words (drop (i + 1) keys)

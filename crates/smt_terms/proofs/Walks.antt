@@ -20,9 +20,9 @@ use Rattle.smt_terms.specs.declared.next.Next.{Next}
 use Rattle.smt_terms.specs.declared.next.Next.TheVariants as step
 use Rattle.smt_terms.specs.declared.walked.Walked.{Walked}
 use Rattle.smt_terms.specs.declared.step.Step.{Step}
-use Rattle.smt_terms.specs.Meant.{Meant, Meaning, End}
+use Rattle.smt_terms.specs.Reading.{Reading, Meaning, End}
 use Rattle.smt_terms.specs.Terms.{value, token_value, list_value, forall_value}
-use Rattle.smt_terms.specs.Cursor.{word_at, here, SeesList, SeesToken}
+use Rattle.smt_terms.specs.Cursor.{word_at, trees_from, SeesList, SeesToken}
 use Rattle.smt_terms.specs.Machine.{outside, goes_by, finish, resume, weight, load, base_of, bound_round, weight_by, scope_of, rest_of, work_of, work_in, given_to, GivesOn, Opens, IsUniversalAt, Advances, Stands, Walks, Progress, Steps, step_of, step_for}
 use Rattle.smt_terms.proofs.Machines.{pushed, at_token, at_list}
 use Rattle.smt_terms.proofs.Openings.{refuses_same}
@@ -50,15 +50,15 @@ module _ (words : List Word) (state : State) (inside : Inside) (missing : Place)
   -- a token
   pub token_gives : (v : Value) (later : Draft) → SeesToken words i → token_value (scope_of state inside bound) (word_at words i) draft ≡ Ok (v, later)
       → rest_of words state inside missing frames bound i draft ≡ given_to words state inside frames bound (i + 1) (word_at words i).place v later
-  token_gives v later sees makes = ap (λ (trees : Meant). resume words missing (scope_of state inside bound) (reverse frames) trees draft) sees.is
-      ∙ at_token words missing (scope_of state inside bound) (reverse frames) (word_at words i) (here words (i + 1)) draft
-      ∙ ap (then_from (λ (u : Value). finish words (scope_of state inside bound) (reverse frames) (here words (i + 1)) (word_at words i).place u)) makes
+  token_gives v later sees makes = ap (λ (trees : Reading). resume words missing (scope_of state inside bound) (reverse frames) trees draft) sees.is
+      ∙ at_token words missing (scope_of state inside bound) (reverse frames) (word_at words i) (trees_from words (i + 1)) draft
+      ∙ ap (then_from (λ (u : Value). finish words (scope_of state inside bound) (reverse frames) (trees_from words (i + 1)) (word_at words i).place u)) makes
 
   pub token_refused : (stopped : Stop) → SeesToken words i → Refuses stopped (token_value (scope_of state inside bound) (word_at words i) draft)
       → Refuses stopped (rest_of words state inside missing frames bound i draft)
-  token_refused stopped sees = refuses_same stopped _ _ (λ fault makes. ap (λ (trees : Meant). resume words missing (scope_of state inside bound) (reverse frames) trees draft) sees.is
-      ∙ at_token words missing (scope_of state inside bound) (reverse frames) (word_at words i) (here words (i + 1)) draft
-      ∙ ap (then_from (λ (u : Value). finish words (scope_of state inside bound) (reverse frames) (here words (i + 1)) (word_at words i).place u)) makes)
+  token_refused stopped sees = refuses_same stopped _ _ (λ fault makes. ap (λ (trees : Reading). resume words missing (scope_of state inside bound) (reverse frames) trees draft) sees.is
+      ∙ at_token words missing (scope_of state inside bound) (reverse frames) (word_at words i) (trees_from words (i + 1)) draft
+      ∙ ap (then_from (λ (u : Value). finish words (scope_of state inside bound) (reverse frames) (trees_from words (i + 1)) (word_at words i).place u)) makes)
 
   pub token_less : SeesToken words i → work_of words frames (i + 1) < work_of words frames i
   unfolding weight
@@ -67,14 +67,14 @@ module _ (words : List Word) (state : State) (inside : Inside) (missing : Place)
   -- a list
   pub at_list_here : (after : ℕ) → SeesList words i after
       → rest_of words state inside missing frames bound i draft
-      ≡ then_from (λ (u : Value). finish words (scope_of state inside bound) (reverse frames) (here words after) (word_at words i).place u) (list_value (word_at words i) (here words (i + 1)) (scope_of state inside bound) draft)
-  at_list_here after sees = ap (λ (trees : Meant). resume words missing (scope_of state inside bound) (reverse frames) trees draft) sees.is
-      ∙ at_list words missing (scope_of state inside bound) (reverse frames) (word_at words i) (list_value (word_at words i) (here words (i + 1))) (here words (i + 1)) (here words after) draft
+      ≡ then_from (λ (u : Value). finish words (scope_of state inside bound) (reverse frames) (trees_from words after) (word_at words i).place u) (list_value (word_at words i) (trees_from words (i + 1)) (scope_of state inside bound) draft)
+  at_list_here after sees = ap (λ (trees : Reading). resume words missing (scope_of state inside bound) (reverse frames) trees draft) sees.is
+      ∙ at_list words missing (scope_of state inside bound) (reverse frames) (word_at words i) (list_value (word_at words i) (trees_from words (i + 1))) (trees_from words (i + 1)) (trees_from words after) draft
 
-  pub list_refused : (after : ℕ) (stopped : Stop) → SeesList words i after → Refuses stopped (list_value (word_at words i) (here words (i + 1)) (scope_of state inside bound) draft)
+  pub list_refused : (after : ℕ) (stopped : Stop) → SeesList words i after → Refuses stopped (list_value (word_at words i) (trees_from words (i + 1)) (scope_of state inside bound) draft)
       → Refuses stopped (rest_of words state inside missing frames bound i draft)
   list_refused after stopped sees = refuses_same stopped _ _ (λ fault makes. at_list_here after sees
-      ∙ ap (then_from (λ (u : Value). finish words (scope_of state inside bound) (reverse frames) (here words after) (word_at words i).place u)) makes)
+      ∙ ap (then_from (λ (u : Value). finish words (scope_of state inside bound) (reverse frames) (trees_from words after) (word_at words i).place u)) makes)
 
   list_less : (after : ℕ) → SeesList words i after → 2 + work_in words frames (i + 1) after < work_of words frames i
   unfolding weight
@@ -87,22 +87,22 @@ module _ (words : List Word) (state : State) (inside : Inside) (missing : Place)
   -- a forall
   module _ (after : ℕ) (sees : SeesList words i after) (universal : IsUniversalAt words inside i) where
     forall_here : rest_of words state inside missing frames bound i draft
-        ≡ then_from (λ (u : Value). finish words (scope_of state inside bound) (reverse frames) (here words after) (word_at words i).place u) (forall_value (word_at words i).place (word_at words (i + 1)).place (here words (i + 2)) (scope_of state inside bound) draft)
+        ≡ then_from (λ (u : Value). finish words (scope_of state inside bound) (reverse frames) (trees_from words after) (word_at words i).place u) (forall_value (word_at words i).place (word_at words (i + 1)).place (trees_from words (i + 2)) (scope_of state inside bound) draft)
     forall_here = at_list_here after sees
-        ∙ ap (λ (m : Meaning). then_from (λ (u : Value). finish words (scope_of state inside bound) (reverse frames) (here words after) (word_at words i).place u) (m (scope_of state inside bound) draft)) universal.means
+        ∙ ap (λ (m : Meaning). then_from (λ (u : Value). finish words (scope_of state inside bound) (reverse frames) (trees_from words after) (word_at words i).place u) (m (scope_of state inside bound) draft)) universal.means
 
-    pub forall_gives : (at : Place) (v : Value) (later : Draft) → at ≡ (word_at words i).place → forall_value (word_at words i).place (word_at words (i + 1)).place (here words (i + 2)) (scope_of state inside bound) draft ≡ Ok (v, later)
+    pub forall_gives : (at : Place) (v : Value) (later : Draft) → at ≡ (word_at words i).place → forall_value (word_at words i).place (word_at words (i + 1)).place (trees_from words (i + 2)) (scope_of state inside bound) draft ≡ Ok (v, later)
         → rest_of words state inside missing frames bound i draft ≡ given_to words state inside frames bound after at v later
-    forall_gives at v later place makes = forall_here ∙ ap (then_from (λ (u : Value). finish words (scope_of state inside bound) (reverse frames) (here words after) (word_at words i).place u)) makes
+    forall_gives at v later place makes = forall_here ∙ ap (then_from (λ (u : Value). finish words (scope_of state inside bound) (reverse frames) (trees_from words after) (word_at words i).place u)) makes
         ∙ ap (λ (p : Place). given_to words state inside frames bound after p v later) (sym place)
 
-    pub forall_refused : (stopped : Stop) → Refuses stopped (forall_value (word_at words i).place (word_at words (i + 1)).place (here words (i + 2)) (scope_of state inside bound) draft)
+    pub forall_refused : (stopped : Stop) → Refuses stopped (forall_value (word_at words i).place (word_at words (i + 1)).place (trees_from words (i + 2)) (scope_of state inside bound) draft)
         → Refuses stopped (rest_of words state inside missing frames bound i draft)
-    forall_refused stopped = refuses_same stopped _ _ (λ fault makes. forall_here ∙ ap (then_from (λ (u : Value). finish words (scope_of state inside bound) (reverse frames) (here words after) (word_at words i).place u)) makes)
+    forall_refused stopped = refuses_same stopped _ _ (λ fault makes. forall_here ∙ ap (then_from (λ (u : Value). finish words (scope_of state inside bound) (reverse frames) (trees_from words after) (word_at words i).place u)) makes)
 
   -- it opens
   pub list_steps : (after : ℕ) (new : List Frame) (later : List Bound) (o : Opened) (s : Step) → SeesList words i after → s ≡ step_for o i after
-      → Opens words state inside frames bound new later i after (2 + work_in words frames (i + 1) after) (list_value (word_at words i) (here words (i + 1))) (Ok o)
+      → Opens words state inside frames bound new later i after (2 + work_in words frames (i + 1) after) (list_value (word_at words i) (trees_from words (i + 1))) (Ok o)
       → Steps words state inside missing frames bound new later draft draft i (Ok s)
   list_steps after new later (opened.At j) s sees is opens =
       let g = opens missing draft in
@@ -111,21 +111,21 @@ module _ (words : List Word) (state : State) (inside : Inside) (missing : Place)
       rw is (record { same_place = refl; same_frames = opens.1; same_bound = opens.2; sees = sees; universal = opens.0 }, refl)
 
   -- the end of a list
-  module _ (ends : here words i ≡ End) where
+  module _ (ends : trees_from words i ≡ End) where
     pub end_none : frames ≡ [] → rest_of words state inside missing frames bound i draft ≡ Err (fault_of refusal.BadForm missing [])
     unfolding resume
     end_none empty = rw (empty, ends) refl
 
     module _ (popped : List Frame) (f : Frame) (was : frames ≡ popped ++ f ∷ []) where
       at_end : rest_of words state inside missing frames bound i draft
-          ≡ then_from (λ (u : Value). finish words (outside f.work (scope_of state inside bound)) (reverse popped) (here words f.after) f.paren u) (goes_by words f.work (scope_of state inside bound) f End draft)
+          ≡ then_from (λ (u : Value). finish words (outside f.work (scope_of state inside bound)) (reverse popped) (trees_from words f.after) f.paren u) (goes_by words f.work (scope_of state inside bound) f End draft)
       unfolding resume
-      at_end = ap (λ (trees : Meant). resume words missing (scope_of state inside bound) (reverse frames) trees draft) ends
+      at_end = ap (λ (trees : Reading). resume words missing (scope_of state inside bound) (reverse frames) trees draft) ends
           ∙ ap (λ (fs : List Frame). resume words missing (scope_of state inside bound) fs End draft) (pushed popped frames f was)
 
       pub end_refused : (stopped : Stop) → Refuses stopped (goes_by words f.work (scope_of state inside bound) f End draft) → Refuses stopped (rest_of words state inside missing frames bound i draft)
       end_refused stopped = refuses_same stopped _ _ (λ fault makes. at_end
-          ∙ ap (then_from (λ (u : Value). finish words (outside f.work (scope_of state inside bound)) (reverse popped) (here words f.after) f.paren u)) makes)
+          ∙ ap (then_from (λ (u : Value). finish words (outside f.work (scope_of state inside bound)) (reverse popped) (trees_from words f.after) f.paren u)) makes)
 
       -- a list that has a value at its end binds no names
       no_names : (work : Work) (v : Value) (later : Draft) → goes_by words work (scope_of state inside bound) f End draft ≡ Ok (v, later) → bound_round work bound ≡ bound
@@ -136,8 +136,8 @@ module _ (words : List Word) (state : State) (inside : Inside) (missing : Place)
       pub end_gives : (v : Value) (later : Draft) → goes_by words f.work (scope_of state inside bound) f End draft ≡ Ok (v, later)
           → rest_of words state inside missing frames bound i draft ≡ given_to words state inside popped bound f.after f.paren v later
       end_gives v later makes = at_end
-          ∙ ap (then_from (λ (u : Value). finish words (outside f.work (scope_of state inside bound)) (reverse popped) (here words f.after) f.paren u)) makes
-          ∙ ap (λ (names : List Bound). finish words (scope_of state inside names) (reverse popped) (here words f.after) f.paren v later) (no_names f.work v later makes)
+          ∙ ap (then_from (λ (u : Value). finish words (outside f.work (scope_of state inside bound)) (reverse popped) (trees_from words f.after) f.paren u)) makes
+          ∙ ap (λ (names : List Bound). finish words (scope_of state inside names) (reverse popped) (trees_from words f.after) f.paren v later) (no_names f.work v later makes)
 
       pub end_base : (v : Value) (later : Draft) → goes_by words f.work (scope_of state inside bound) f End draft ≡ Ok (v, later) → base_of (reverse popped) bound ≡ base_of (reverse frames) bound
       unfolding base_of
@@ -154,7 +154,7 @@ module _ (words : List Word) (state : State) (inside : Inside) (missing : Place)
 
 -- at the beginning all is left to do
 pub at_start : (words : List Word) (state : State) (inside : Inside) (missing : Place) (bound : List Bound) (frames : List Frame) (i : ℕ) (draft : Draft) → frames ≡ []
-    → value missing (scope_of state inside bound) (here words i) draft ≡ rest_of words state inside missing frames bound i draft
+    → value missing (scope_of state inside bound) (trees_from words i) draft ≡ rest_of words state inside missing frames bound i draft
 unfolding resume
 at_start words state inside missing bound frames i draft empty = rw empty refl
 

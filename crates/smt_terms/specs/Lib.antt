@@ -1,4 +1,4 @@
-pub mod Meant
+pub mod Reading
 pub mod Terms
 pub mod Cursor
 pub mod Machine

@@ -29,9 +29,9 @@ use Rattle.smt_terms.specs.declared.step.Step.{Step}
 use Rattle.smt_terms.specs.declared.step.Step.TheVariants as kind
 use Rattle.smt_terms.specs.declared.walked.Walked.{Walked}
 use Rattle.smt_terms.specs.declared.walked.Walked.TheVariants as walked
-use Rattle.smt_terms.specs.Meant.{Meant, Meaning, End, Token, Group}
+use Rattle.smt_terms.specs.Reading.{Reading, Meaning, End, Token, Group}
 use Rattle.smt_terms.specs.Terms.{value, values, bind, bound_values, forall_value, list_value}
-use Rattle.smt_terms.specs.Cursor.{word_at, here, SeesList}
+use Rattle.smt_terms.specs.Cursor.{word_at, trees_from, SeesList}
 
 -- the scope of a term where these names are bound
 abbrev pub scope_of : State → Inside → List Bound → Scope
@@ -62,7 +62,7 @@ base_of (f ∷ fs) bound = base_of fs (bound_round f.work bound)
 
 module _ (words : List Word) where
   -- an application with these arguments gets those that are left
-  abbrev pub applies : Scope → Frame → ℕ → Head → List Arg → Meant → Making Value
+  abbrev pub applies : Scope → Frame → ℕ → Head → List Arg → Reading → Making Value
   applies scope f called head args trees = do
     more ← values scope trees
     applied f.paren f.head (word_at words called).text (named_by scope.state head) (args ++ more)
@@ -70,11 +70,11 @@ module _ (words : List Word) where
   -- the bindings from a place on, after those that are done, and then the body
   abbrev pub binds : Scope → Place → List Bound → (next body : ℕ) → Making Value
   binds scope head done next body = do
-    bound ← bound_values scope (here words next)
-    value head (with_bound scope (done ++ bound)) (here words body)
+    bound ← bound_values scope (trees_from words next)
+    value head (with_bound scope (done ++ bound)) (trees_from words body)
 
   -- a list has the value of a tree, and these trees are left in it
-  abbrev pub takes_by : Work → Scope → Frame → Meant → Place → Value → Making Value
+  abbrev pub takes_by : Work → Scope → Frame → Reading → Place → Value → Making Value
   takes_by (Apply called head args) scope f trees at v = applies scope f called head (args.items
       ++ record { place = at; value = v } ∷ []) trees
   takes_by (Let name done next body) scope f trees at v = binds scope f.head (done.items
@@ -82,7 +82,7 @@ module _ (words : List Word) where
   takes_by (Pass bound) scope f trees at v = made v
 
   -- a list goes on with these trees
-  abbrev pub goes_by : Work → Scope → Frame → Meant → Making Value
+  abbrev pub goes_by : Work → Scope → Frame → Reading → Making Value
   goes_by (Apply called head args) scope f trees = applies scope f called head args.items trees
   goes_by (Let name done next body) scope f trees = do
     v ← value (word_at words name).place scope trees
@@ -91,48 +91,48 @@ module _ (words : List Word) where
 
   -- What is left to do once a tree has its value, by the lists that are open, the innermost first, and the trees left
   -- in that.
-  unfoldable pub finish : Scope → List Frame → Meant → Place → Value → Making Value
+  unfoldable pub finish : Scope → List Frame → Reading → Place → Value → Making Value
   finish scope [] trees at v = made v
   finish scope (f ∷ fs) trees at v = do
     u ← takes_by f.work scope f trees at v
-    finish (outside f.work scope) fs (here words f.after) f.paren u
+    finish (outside f.work scope) fs (trees_from words f.after) f.paren u
 
   -- What is left to do where a tree or the end of the innermost list comes next.
-  unfoldable pub resume : Place → Scope → List Frame → Meant → Making Value
+  unfoldable pub resume : Place → Scope → List Frame → Reading → Making Value
   resume missing scope [] trees = value missing scope trees
   resume missing scope (f ∷ fs) trees = do
     u ← goes_by f.work scope f trees
-    finish (outside f.work scope) fs (here words f.after) f.paren u
+    finish (outside f.work scope) fs (trees_from words f.after) f.paren u
 
   -- how much work some trees are
-  unfoldable pub weight : Meant → ℕ
+  unfoldable pub weight : Reading → ℕ
   weight End = 0
   weight (Token word trees) = 1 + weight trees
   weight (Group paren meaning inner trees) = 3 + weight inner + weight trees
 
   abbrev pub weight_by : Work → ℕ
   weight_by (Apply called head args) = 1
-  weight_by (Let name done next body) = 1 + weight (here words next) + weight (here words body)
+  weight_by (Let name done next body) = 1 + weight (trees_from words next) + weight (trees_from words body)
   weight_by (Pass bound) = 1
 
   -- and what is left of some open lists
   unfoldable pub load : List Frame → ℕ
   load [] = 0
-  load (f ∷ fs) = weight_by f.work + weight (here words f.after) + load fs
+  load (f ∷ fs) = weight_by f.work + weight (trees_from words f.after) + load fs
 
 -- From a place on, with these lists open, the innermost last, what is left to do.
 abbrev pub rest_of : List Word → State → Inside → Place → List Frame → List Bound → ℕ → Making Value
 rest_of words state inside missing frames bound i = resume words missing (scope_of state inside bound)
-    (reverse frames) (here words i)
+    (reverse frames) (trees_from words i)
 
 -- What is left to do once a tree has its value, and the next stands there.
 abbrev pub given_to : List Word → State → Inside → List Frame → List Bound → ℕ → Place → Value → Making Value
 given_to words state inside frames bound next at v = finish words (scope_of state inside bound) (reverse frames)
-    (here words next) at v
+    (trees_from words next) at v
 
 -- how much work is left there
 abbrev pub work_of : List Word → List Frame → ℕ → ℕ
-work_of words frames i = weight words (here words i) + load words (reverse frames)
+work_of words frames i = weight words (trees_from words i) + load words (reverse frames)
 
 -- What a step did, where so much was to do and these names were bound round all: it goes on at a place, with no more
 -- work than so much, or the value of the whole is there.
@@ -157,7 +157,7 @@ abbrev pub binds_in : List Word → List Frame → List Bound → (paren head : 
     (next body : ℕ) → State → Inside → Making Value
 binds_in words frames bound paren head after done next body state inside = do
   v ← binds words (scope_of state inside bound) head done next body
-  finish words (scope_of state inside bound) (reverse frames) (here words after) paren v
+  finish words (scope_of state inside bound) (reverse frames) (trees_from words after) paren v
 
 -- What giving a value to the innermost list did: it is that of the whole, elaboration goes on at a place, or it is
 -- the value of that list.
@@ -200,7 +200,7 @@ GivesOn words frames bound new_frames new_bound after at v (Err refused) = Unit 
 
 -- A list with this meaning is a forall that stands outside foralls and definitions: its place, that of its head, and
 -- what stands behind that.
-pub record IsUniversal (inside : Inside) (meaning : Meaning) (paren head : Place) (parts : Meant) : Type 0 where
+pub record IsUniversal (inside : Inside) (meaning : Meaning) (paren head : Place) (parts : Reading) : Type 0 where
   pub no_forall : inside.in_forall ≡ false
   pub no_definition : inside.in_definition ≡ false
   pub means : meaning ≡ forall_value paren head parts
@@ -212,17 +212,18 @@ abbrev pub Opens : List Word → State → Inside → List Frame → List Bound 
 Opens words state inside frames bound new_frames new_bound i after most meaning (Ok (opened.At j)) =
     (missing : Place) (draft : Draft) → GoesOn words state inside missing new_frames new_bound draft
     (base_of (reverse frames) bound) most (step.At j)
-    (then_from (λ (v : Value). finish words (scope_of state inside bound) (reverse frames) (here words after)
+    (then_from (λ (v : Value). finish words (scope_of state inside bound) (reverse frames) (trees_from words after)
     (word_at words i).place v) (meaning (scope_of state inside bound) draft))
 Opens words state inside frames bound new_frames new_bound i after most meaning (Ok opened.Universal) =
-    IsUniversal inside meaning (word_at words i).place (word_at words (i + 1)).place (here words (i + 2)) ×
+    IsUniversal inside meaning (word_at words i).place (word_at words (i + 1)).place (trees_from words (i + 2)) ×
     (new_frames ≡ frames) × (new_bound ≡ bound)
 Opens words state inside frames bound new_frames new_bound i after most meaning (Err stop) = (draft : Draft) →
     Refuses stop (meaning (scope_of state inside bound) draft)
 
 -- how much work is left in a list from its parts on, and behind it
 abbrev pub work_in : List Word → List Frame → (parts after : ℕ) → ℕ
-work_in words frames parts after = weight words (here words parts) + weight words (here words after) + load words
+work_in words frames parts after = weight words (trees_from words parts) + weight words
+    (trees_from words after) + load words
     (reverse frames)
 
 -- What a step does: it goes on with less work, or it stands before a forall outside foralls, or it is refused.
@@ -232,8 +233,8 @@ pub record Before (words : List Word) (inside : Inside) (frames : List Frame) (b
   pub same_frames : new_frames ≡ frames
   pub same_bound : new_bound ≡ bound
   pub sees : SeesList words at after
-  pub universal : IsUniversal inside (list_value (word_at words at) (here words (at + 1))) (word_at words at).place
-      (word_at words (at + 1)).place (here words (at + 2))
+  pub universal : IsUniversal inside (list_value (word_at words at) (trees_from words (at + 1)))
+      (word_at words at).place (word_at words (at + 1)).place (trees_from words (at + 2))
 
 pub record Progress (words : List Word) (state : State) (inside : Inside) (missing : Place) (frames : List Frame)
     (bound : List Bound) (new_frames : List Frame) (new_bound : List Bound) (draft later : Draft) (i : ℕ)
@@ -275,8 +276,8 @@ pub record Stands (words : List Word) (state : State) (inside : Inside) (missing
   pub base : base_of (reverse new_frames) new_bound ≡ base_of (reverse frames) bound
   pub no_more : work_of words new_frames at ≤ work_of words frames i
   pub sees : SeesList words at after
-  pub universal : IsUniversal inside (list_value (word_at words at) (here words (at + 1))) (word_at words at).place
-      (word_at words (at + 1)).place (here words (at + 2))
+  pub universal : IsUniversal inside (list_value (word_at words at) (trees_from words (at + 1)))
+      (word_at words at).place (word_at words (at + 1)).place (trees_from words (at + 2))
 
 abbrev pub Walks : List Word → State → Inside → Place → List Frame → List Bound → List Frame → List Bound → Draft →
     Draft → ℕ → Result Walked Stop → Type 0
@@ -294,7 +295,8 @@ abbrev pub OpensForall : List Word → Inside → ℕ → Result Opened Stop →
 OpensForall words inside i (Ok (opened.At j)) = ⊥
 OpensForall words inside i (Ok opened.Universal) = (inside.in_forall ≡ false) × (inside.in_definition ≡ false)
 OpensForall words inside i (Err stop) = (state : State) (bound : List Bound) (paren : Place) (draft : Draft) →
-    Refuses stop (forall_value paren (word_at words (i + 1)).place (here words (i + 2)) (scope_of state inside bound)
+    Refuses stop (forall_value paren (word_at words (i + 1)).place (trees_from words (i + 2))
+    (scope_of state inside bound)
     draft)
 
 -- what a name that is not bound stands for, where it stands for something
@@ -304,8 +306,8 @@ IsHeadOf state name (Some h) = (h ≡ head_of state name) × (is_known (named_by
 
 -- a forall outside foralls and definitions stands at a place
 abbrev pub IsUniversalAt : List Word → Inside → ℕ → Type 0
-IsUniversalAt words inside i = IsUniversal inside (list_value (word_at words i) (here words (i + 1)))
-    (word_at words i).place (word_at words (i + 1)).place (here words (i + 2))
+IsUniversalAt words inside i = IsUniversal inside (list_value (word_at words i) (trees_from words (i + 1)))
+    (word_at words i).place (word_at words (i + 1)).place (trees_from words (i + 2))
 
 -- What going on behind the next forall did: there is less to do, or the value of the whole is there, or it is
 -- refused.

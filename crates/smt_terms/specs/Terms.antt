@@ -25,8 +25,8 @@ use Rattle.smt_patterns.specs.Roots.{small_root}
 use Rattle.smt_patterns.specs.Triggers.{rooted_trigger}
 use Rattle.smt_terms.specs.declared.form.Form.{Form}
 use Rattle.smt_terms.specs.declared.form.Form.TheVariants.{Let, Annotated, Universal, Foreign, Application}
-use Rattle.smt_terms.specs.Meant.{Meaning, Meant, End, Token, Group, from, first_place, no_more}
-use Rattle.smt_terms.specs.Meant.{at_least, exactly, Listed, other_sort, some_bindings, no_binding, attributes_of}
+use Rattle.smt_terms.specs.Reading.{Meaning, Reading, End, Token, Group, from, first_place, no_more}
+use Rattle.smt_terms.specs.Reading.{at_least, exactly, Listed, other_sort, some_bindings, no_binding, attributes_of}
 
 -- Tokens.
 -- what a bound name stands for; inside a forall a formula must have a complement
@@ -60,7 +60,7 @@ token_value scope word = elim word.kind [
 
 -- Trees.
 -- the value of the first tree
-abbrev pub value : Place → Scope → Meant → Making Value
+abbrev pub value : Place → Scope → Reading → Making Value
 value missing scope End = bad_form missing
 value missing scope (Token word trees) = token_value scope word
 value missing scope (Group paren meaning inner trees) = meaning scope
@@ -72,13 +72,13 @@ add_value at first others = do
   made (record { place = at; value = v } ∷ args)
 
 -- the values of all trees, from left to right
-abbrev pub values : Scope → Meant → Making (List Arg)
+abbrev pub values : Scope → Reading → Making (List Arg)
 values scope End = made []
 values scope (Token word trees) = add_value word.place (token_value scope word) (values scope trees)
 values scope (Group paren meaning inner trees) = add_value paren.place (meaning scope) (values scope trees)
 
 -- the value of the first tree, a formula
-abbrev pub truth : Place → Scope → Meant → Making Value
+abbrev pub truth : Place → Scope → Reading → Making Value
 truth missing scope trees = do
   v ← value missing scope trees
   want (sort_of v == 0) refusal.WrongSort (first_place missing trees)
@@ -95,12 +95,12 @@ add_bound name first others = do
   made (bind name v ∷ bound)
 
 -- the values of bindings whose form is right, all in one scope
-abbrev pub bound_values : Scope → Meant → Making (List Bound)
+abbrev pub bound_values : Scope → Reading → Making (List Bound)
 bound_values scope (Group paren meaning (Token name term) after) = add_bound name.text (value name.place scope term)
     (bound_values scope after)
 bound_values scope trees = made []
 
-abbrev pub let_value : Place → Meant → Meaning
+abbrev pub let_value : Place → Reading → Meaning
 let_value head parts scope = do
   exactly 2 head parts
   listed ← some_bindings head parts
@@ -108,7 +108,7 @@ let_value head parts scope = do
   value head (record scope { bound = scope.bound ++ bound }) (from 1 parts)
 
 -- Form 2: !. All attributes are passed over.
-abbrev pub annotated_value : Place → Meant → Meaning
+abbrev pub annotated_value : Place → Reading → Meaning
 annotated_value head parts scope = do
   attributes_of head parts
   value head scope parts
@@ -121,7 +121,7 @@ add_variable name index first others = do
   made (record { name = name; stands = Variable index sort } ∷ variables)
 
 -- the variables of bindings whose form is right, from this index on
-abbrev pub variables_from : State → ℕ → Meant → Making (List Bound)
+abbrev pub variables_from : State → ℕ → Reading → Making (List Bound)
 variables_from state index (Group paren meaning (Token name given) after) = add_variable name.text index
     (other_sort state name.place given) (variables_from state (index + 1) after)
 variables_from state index trees = made []
@@ -132,14 +132,14 @@ is_pattern_key word = is_keyword word.kind && bytes_eq word.text (codes ":patter
 -- a :pattern attribute: its keyword, and the trees behind it
 pub record Attribute : Type 0 where
   pub key : Word
-  pub behind : Meant
+  pub behind : Reading
 
 abbrev pub attribute_if : Bool → Attribute → List Attribute
 attribute_if true attribute = attribute ∷ []
 attribute_if false attribute = []
 
 -- the :pattern attributes among some attributes
-abbrev pub patterns_in : Meant → List Attribute
+abbrev pub patterns_in : Reading → List Attribute
 patterns_in End = []
 patterns_in (Token word trees) = attribute_if (is_pattern_key word) (record { key = word; behind = trees })
     ++ patterns_in trees
@@ -148,12 +148,12 @@ patterns_in (Group paren meaning inner trees) = patterns_in trees
 -- a body, and the :pattern attributes round it, the outer ones first
 pub record Body : Type 0 where
   pub patterns : List Attribute
-  pub tree : Meant
+  pub tree : Reading
 
 abbrev pub is_annotation : Word → Bool
 is_annotation word = is_symbol word.kind && bytes_eq word.text (codes "!")
 
-abbrev pub body_of : List Attribute → Meant → Making Body
+abbrev pub body_of : List Attribute → Reading → Making Body
 body_of so_far (Group paren meaning (Token head parts) trees) =
     cond (is_annotation head)
     (do
@@ -175,7 +175,7 @@ add_root first others = do
   made (r ∷ roots)
 
 -- the roots of patterns, from left to right
-abbrev pub pattern_roots : Scope → Meant → Making (List ℕ)
+abbrev pub pattern_roots : Scope → Reading → Making (List ℕ)
 pattern_roots scope End = made []
 pattern_roots scope (Token word trees) = add_root (pattern_root word.place (token_value scope word))
     (pattern_roots scope trees)
@@ -183,7 +183,7 @@ pattern_roots scope (Group paren meaning inner trees) = add_root (pattern_root p
     (pattern_roots scope trees)
 
 -- the list of patterns that must stand behind the keyword
-abbrev pub pattern_list : Place → Meant → Making Listed
+abbrev pub pattern_list : Place → Reading → Making Listed
 pattern_list key End = bad_form key
 pattern_list key (Token word trees) = bad_form (cond (is_keyword word.kind) key word.place)
 pattern_list key (Group paren meaning inner trees) = made (record { paren = paren; inner = inner })
@@ -223,38 +223,38 @@ quantified paren head scope variables body = do
   made (Formula n None)
 
 -- a forall of these variables: the attributes round its body, and then the body and the triggers
-abbrev pub body_forall : (paren head : Place) → Scope → List Bound → Meant → Making Value
+abbrev pub body_forall : (paren head : Place) → Scope → List Bound → Reading → Making Value
 body_forall paren head scope variables trees = do
   body ← body_of [] trees
   quantified paren head scope variables body
 
 -- a forall whose bindings have the right form: at most 32 variables, their sorts, and then its body and its triggers
-abbrev pub bound_forall : (paren head : Place) → Scope → (bindings body : Meant) → Making Value
+abbrev pub bound_forall : (paren head : Place) → Scope → (bindings body : Reading) → Making Value
 bound_forall paren head scope bindings trees = do
   no_binding refusal.TooManyVariables (from 32 bindings)
   variables ← variables_from scope.state 0 bindings
   body_forall paren head scope variables trees
 
 -- a forall that may stand there
-abbrev pub checked_forall : (paren head : Place) → Meant → Meaning
+abbrev pub checked_forall : (paren head : Place) → Reading → Meaning
 checked_forall paren head parts scope = do
   exactly 2 head parts
   listed ← some_bindings head parts
   bound_forall paren head scope listed.inner (from 1 parts)
 
-abbrev pub forall_value : (paren head : Place) → Meant → Meaning
+abbrev pub forall_value : (paren head : Place) → Reading → Meaning
 forall_value paren head parts scope = do
   want (not (scope.in_forall || scope.in_definition)) refusal.NotInProfile head
   checked_forall paren head parts scope
 
 -- Form 5: a name.
-abbrev pub named_value : Place → Word → Named → Meant → Meaning
+abbrev pub named_value : Place → Word → Named → Reading → Meaning
 named_value paren head Unknown parts scope = refuse_named refusal.UnknownName head.place head.text
 named_value paren head name parts scope = do
   args ← values scope parts
   applied paren head.place head.text name args
 
-abbrev pub unbound_value : Place → Word → Meant → Option Bound → Meaning
+abbrev pub unbound_value : Place → Word → Reading → Option Bound → Meaning
 unbound_value paren head parts (Some b) scope = refuse_named refusal.WrongArity head.place head.text
 unbound_value paren head parts None scope = named_value paren head (named scope.state head.text) parts scope
 
@@ -266,7 +266,7 @@ form_of name =
     if bytes_eq name (codes "forall") then Universal else
     if is_reserved name then Foreign else Application
 
-abbrev pub form_value : Place → Word → Meant → Form → Meaning
+abbrev pub form_value : Place → Word → Reading → Form → Meaning
 form_value paren head parts Let scope = let_value head.place parts scope
 form_value paren head parts Annotated scope = annotated_value head.place parts scope
 form_value paren head parts Universal scope = forall_value paren head.place parts scope
@@ -274,17 +274,17 @@ form_value paren head parts Foreign scope = not_in_profile head.place
 form_value paren head parts Application scope = unbound_value paren head parts (bound_as scope.bound head.text) scope
 
 -- Lists: the empty list, a list at the head, another token than a symbol at the head, and the forms.
-unfoldable pub list_value : Word → Meant → Meaning
+unfoldable pub list_value : Word → Reading → Meaning
 list_value paren End scope = bad_form paren.place
 list_value paren (Group inner meaning parts trees) scope = not_in_profile inner.place
 list_value paren (Token head parts) scope = cond (is_symbol head.kind)
     (form_value paren.place head parts (form_of head.text) scope) (bad_form head.place)
 
 -- Each list in its place gets its meaning, from the inside.
-abbrev pub group_meant : Word → Meant → Meant → Meant
-group_meant paren inner after = Group paren (list_value paren inner) inner after
+abbrev pub group_reading : Word → Reading → Reading → Reading
+group_reading paren inner after = Group paren (list_value paren inner) inner after
 
-unfoldable pub meant : trees.Trees → Meant
-meant trees.End = End
-meant (trees.Token word after) = Token word (meant after)
-meant (trees.Group paren inner after) = group_meant paren (meant inner) (meant after)
+unfoldable pub reading : trees.Trees → Reading
+reading trees.End = End
+reading (trees.Token word after) = Token word (reading after)
+reading (trees.Group paren inner after) = group_reading paren (reading inner) (reading after)

@@ -3,9 +3,9 @@ ghost use Rattle.std.specs.Prelude.{◌≡◌, ◌+◌, ◌++◌, ◌∷◌, [],
 ghost use Rattle.smt_names.specs.Makes.{Checks, MakesItems};
 ghost use Rattle.smt_names.specs.Names.{bound_of};
 ghost use Rattle.formula_draft.specs.Draft.{Draft};
-ghost use Rattle.smt_terms.specs.Meant.{from, no_binding, other_sort};
+ghost use Rattle.smt_terms.specs.Reading.{from, no_binding, other_sort};
 ghost use Rattle.smt_terms.specs.Terms.{attribute_if, body_of, is_annotation, is_pattern_key, patterns_in, variables_from};
-ghost use Rattle.smt_terms.specs.Cursor.{word_at, here};
+ghost use Rattle.smt_terms.specs.Cursor.{word_at, trees_from};
 ghost use Rattle.smt_terms.specs.Bodies.{attribute_at, attributes_at, IsAnnotated, IsBody, PassesAnnotation, SeesAnnotated};
 
 use crate::checks::check_attributes;
@@ -17,7 +17,7 @@ use std::alloc::Global;
 
 /// Refuses a binding that comes next, at its name.
 fn check_no_binding(alloc: Global, tree: &Tree, i: u32, refusal: Refusal) -> Result<(), Stop>
-    ensures { Checks result (no_binding refusal (here tree.now i)) }
+    ensures { Checks result (no_binding refusal (trees_from tree.now i)) }
 {
     match binding_at(tree, i) {
         None => Ok(()),
@@ -33,7 +33,7 @@ pub fn check_few_bindings(
     most: u32,
     refusal: Refusal,
 ) -> Result<(), Stop>
-    ensures { Checks result (no_binding refusal (from most (here tree.now i))) }
+    ensures { Checks result (no_binding refusal (from most (trees_from tree.now i))) }
 {
     check_no_binding(alloc, tree, behind_some(tree, i, most), refusal)
 }
@@ -46,7 +46,7 @@ pub fn other_sort_at(
     i: u32,
     missing: Place,
 ) -> Result<u32, Stop>
-    ensures { Checks result (other_sort state.now missing (here tree.now i)) }
+    ensures { Checks result (other_sort state.now missing (trees_from tree.now i)) }
 {
     match look(tree, i) {
         Seen::End => Err(Stop::at(alloc, Refusal::BadForm, missing)),
@@ -78,7 +78,7 @@ pub fn variables_at(
     tree: &Tree,
     i: u32,
 ) -> Result<Vec<Bound>, Stop>
-    ensures { (draft : Draft) → MakesItems result draft draft (variables_from state.now 0 (here tree.now i)) }
+    ensures { (draft : Draft) → MakesItems result draft draft (variables_from state.now 0 (trees_from tree.now i)) }
 {
     let mut variables = Vec::new(alloc);
     let mut index = 0;
@@ -130,7 +130,7 @@ fn push_key(patterns: &mut Vec<u32>, tree: &Tree, i: u32) -> Result<(), Memory>
 
 /// Puts the keywords of the triggers among some attributes last.
 fn gather(patterns: &mut Vec<u32>, tree: &Tree, i: u32) -> Result<(), Memory>
-    ensures { OnOk result (attributes_at tree.now patterns.new.items ≡ attributes_at tree.now patterns.old.items ++ patterns_in (here tree.now i)) }
+    ensures { OnOk result (attributes_at tree.now patterns.new.items ≡ attributes_at tree.now patterns.old.items ++ patterns_in (trees_from tree.now i)) }
 {
     let mut at = i;
     loop {
@@ -176,18 +176,14 @@ fn pass_annotation(alloc: Global, patterns: &mut Vec<u32>, tree: &Tree, i: u32) 
 {
     let _len = tree.len();
     let head = place_at(tree, i + 1);
-    match check_attributes(alloc, tree, i + 2, head) {
-        Err(stop) => Err(stop),
-        Ok(()) => {
-            gather(patterns, tree, behind_one(tree, i + 2))?;
-            Ok(())
-        }
-    }
+    check_attributes(alloc, tree, i + 2, head)?;
+    gather(patterns, tree, behind_one(tree, i + 2))?;
+    Ok(())
 }
 
 /// The body of a forall that comes next, without the attributes round it.
 pub(crate) fn read_body(alloc: Global, tree: &Tree, i: u32) -> Result<Body, Stop>
-    ensures { IsBody tree.now result (body_of [] (here tree.now i)) }
+    ensures { IsBody tree.now result (body_of [] (trees_from tree.now i)) }
 {
     let mut patterns = Vec::new(alloc);
     let mut at = i;

@@ -4,8 +4,8 @@ ghost use Rattle.std.specs.List.{list_any};
 ghost use Rattle.smt_names.specs.declared.refusal.Refusal.TheVariants.{BadForm};
 ghost use Rattle.smt_names.specs.Makes.{Checks};
 ghost use Rattle.smt_names.specs.Names.{is_wide, word_of};
-ghost use Rattle.smt_terms.specs.Meant.{no_more, at_least, at_most, exactly, bindings_after, binding_name, head_place, new_binding, one_or_more, attributes_after, attributes_of};
-ghost use Rattle.smt_terms.specs.Cursor.{here, word_at};
+ghost use Rattle.smt_terms.specs.Reading.{no_more, at_least, at_most, exactly, bindings_after, binding_name, head_place, new_binding, one_or_more, attributes_after, attributes_of};
+ghost use Rattle.smt_terms.specs.Cursor.{trees_from, word_at};
 ghost use Rattle.smt_terms.specs.Checks.{ChecksAs, HasBindings};
 
 use crate::cursor::{Seen, behind_one, behind_some, kind_at, look, place_at, text_at};
@@ -16,7 +16,7 @@ use std::alloc::Global;
 
 /// Refuses a tree that comes next.
 pub fn check_no_more(alloc: Global, tree: &Tree, i: u32, refusal: Refusal) -> Result<(), Stop>
-    ensures { Checks result (no_more refusal (here tree.now i)) }
+    ensures { Checks result (no_more refusal (trees_from tree.now i)) }
 {
     match look(tree, i) {
         Seen::End => Ok(()),
@@ -33,7 +33,7 @@ pub fn check_at_least(
     count: u32,
     missing: Place,
 ) -> Result<(), Stop>
-    ensures { Checks result (at_least count missing (here tree.now i)) }
+    ensures { Checks result (at_least count missing (trees_from tree.now i)) }
 {
     let mut left = count;
     let mut at = i;
@@ -50,7 +50,7 @@ pub fn check_at_least(
 
 /// At most so many trees come next. The first of those that are too many is bad form.
 pub fn check_at_most(alloc: Global, tree: &Tree, i: u32, count: u32) -> Result<(), Stop>
-    ensures { Checks result (at_most count (here tree.now i)) }
+    ensures { Checks result (at_most count (trees_from tree.now i)) }
 {
     check_no_more(alloc, tree, behind_some(tree, i, count), Refusal::BadForm)
 }
@@ -63,7 +63,7 @@ pub fn check_exactly(
     count: u32,
     missing: Place,
 ) -> Result<(), Stop>
-    ensures { Checks result (exactly count missing (here tree.now i)) }
+    ensures { Checks result (exactly count missing (trees_from tree.now i)) }
 {
     check_at_least(alloc, tree, i, count, missing)?;
     check_at_most(alloc, tree, i, count)
@@ -77,7 +77,7 @@ fn check_binding_name(
     names: &DistinctNames,
     missing: Place,
 ) -> Result<(), Stop>
-    ensures check { ChecksAs result (word_at tree.now i) (new_binding names.now missing (here tree.now i)) }
+    ensures check { ChecksAs result (word_at tree.now i) (new_binding names.now missing (trees_from tree.now i)) }
     ensures new { OnOk result (list_any (bytes_eq (word_at tree.now i).text) names.now ≡ false) }
 {
     let place = place_at(tree, i);
@@ -102,7 +102,7 @@ fn check_binding_name(
 
 /// The place of the head of a list, the token that it begins with, or that of its parenthesis.
 fn head_place_at(tree: &Tree, i: u32, paren: Place) -> Place
-    ensures { result ≡ head_place paren (here tree.now i) }
+    ensures { result ≡ head_place paren (trees_from tree.now i) }
 {
     match look(tree, i) {
         Seen::End => paren,
@@ -114,20 +114,18 @@ fn head_place_at(tree: &Tree, i: u32, paren: Place) -> Place
 /// A binding begins at a parenthesis: a name, which must be lawful and none of these, and one tree more.
 fn check_binding(alloc: Global, tree: &Tree, i: u32, names: &DistinctNames) -> Result<(), Stop>
     requires { i < length tree.now }
-    ensures check { ChecksAs result (word_at tree.now (i + 1)) (binding_name names.now (word_at tree.now i) (here tree.now (i + 1))) }
+    ensures check { ChecksAs result (word_at tree.now (i + 1)) (binding_name names.now (word_at tree.now i) (trees_from tree.now (i + 1))) }
     ensures new { OnOk result (list_any (bytes_eq (word_at tree.now (i + 1)).text) names.now ≡ false) }
 {
     let _len = tree.len();
     let paren = place_at(tree, i);
-    match check_exactly(alloc, tree, i + 1, 2, head_place_at(tree, i + 1, paren)) {
-        Err(stop) => Err(stop),
-        Ok(()) => check_binding_name(alloc, tree, i + 1, names, paren),
-    }
+    check_exactly(alloc, tree, i + 1, 2, head_place_at(tree, i + 1, paren))?;
+    check_binding_name(alloc, tree, i + 1, names, paren)
 }
 
 /// Bindings come next, to the end of the list, of which none has the name of an earlier one.
 pub fn check_names(alloc: Global, tree: &Tree, i: u32) -> Result<(), Stop>
-    ensures { Checks result (bindings_after [] (here tree.now i)) }
+    ensures { Checks result (bindings_after [] (trees_from tree.now i)) }
 {
     let mut names = DistinctNames::new(alloc);
     let mut at = i;
@@ -148,7 +146,7 @@ pub fn check_names(alloc: Global, tree: &Tree, i: u32) -> Result<(), Stop>
 
 /// One binding or more come next, to the end of the list.
 fn check_some_bindings(alloc: Global, tree: &Tree, i: u32, missing: Place) -> Result<(), Stop>
-    ensures { Checks result (one_or_more missing (here tree.now i)) }
+    ensures { Checks result (one_or_more missing (trees_from tree.now i)) }
 {
     check_at_least(alloc, tree, i, 1, missing)?;
     check_names(alloc, tree, i)
@@ -162,10 +160,8 @@ pub fn check_bindings(alloc: Global, tree: &Tree, i: u32, missing: Place) -> Res
         Seen::End => Err(Stop::at(alloc, Refusal::BadForm, missing)),
         Seen::Token => Err(Stop::at(alloc, Refusal::BadForm, place_at(tree, i))),
         Seen::List { after } => {
-            match check_some_bindings(alloc, tree, i + 1, place_at(tree, i)) {
-                Err(stop) => Err(stop),
-                Ok(()) => Ok(after),
-            }
+            check_some_bindings(alloc, tree, i + 1, place_at(tree, i))?;
+            Ok(after)
         }
     }
 }
@@ -186,7 +182,7 @@ fn may_be_value(valued: bool, tree: &Tree, i: u32) -> bool
 
 /// Attributes come next, to the end of the list.
 fn check_attributes_after(alloc: Global, tree: &Tree, i: u32) -> Result<(), Stop>
-    ensures { Checks result (attributes_after false (here tree.now i)) }
+    ensures { Checks result (attributes_after false (trees_from tree.now i)) }
 {
     let mut valued = false;
     let mut at = i;
@@ -217,10 +213,8 @@ fn check_attributes_after(alloc: Global, tree: &Tree, i: u32) -> Result<(), Stop
 
 /// A tree and one attribute or more come next, to the end of the list.
 pub fn check_attributes(alloc: Global, tree: &Tree, i: u32, head: Place) -> Result<(), Stop>
-    ensures { Checks result (attributes_of head (here tree.now i)) }
+    ensures { Checks result (attributes_of head (trees_from tree.now i)) }
 {
-    match check_at_least(alloc, tree, i, 2, head) {
-        Err(stop) => Err(stop),
-        Ok(()) => check_attributes_after(alloc, tree, behind_one(tree, i)),
-    }
+    check_at_least(alloc, tree, i, 2, head)?;
+    check_attributes_after(alloc, tree, behind_one(tree, i))
 }

@@ -1,8 +1,8 @@
 //! Reads the tokens of a command as trees.
 ghost use Rattle.std.specs.Prelude.{◌≡◌, ◌<◌, ◌+◌, ℕ, length, drop, true};
 ghost use Rattle.smt_text.specs.Trees.{ahead, outermost, outer};
-ghost use Rattle.smt_terms.specs.Meant.{from};
-ghost use Rattle.smt_terms.specs.Cursor.{word_at, is_left, is_right, here, Sees, MaySeeBinding};
+ghost use Rattle.smt_terms.specs.Reading.{from};
+ghost use Rattle.smt_terms.specs.Cursor.{word_at, is_left, is_right, trees_from, Sees, MaySeeBinding};
 
 use smt_text::{Kind, Place, Tree};
 
@@ -89,7 +89,7 @@ pub fn look(tree: &Tree, i: u32) -> Seen
 
 /// The place behind the tree that comes next, and the same where none does.
 pub fn behind_one(tree: &Tree, i: u32) -> u32
-    ensures { here tree.now result ≡ from 1 (here tree.now i) }
+    ensures { trees_from tree.now result ≡ from 1 (trees_from tree.now i) }
 {
     match look(tree, i) {
         Seen::End => i,
@@ -100,7 +100,7 @@ pub fn behind_one(tree: &Tree, i: u32) -> u32
 
 /// The place behind so many trees.
 pub fn behind_some(tree: &Tree, i: u32, count: u32) -> u32
-    ensures { here tree.now result ≡ from count (here tree.now i) }
+    ensures { trees_from tree.now result ≡ from count (trees_from tree.now i) }
 {
     let mut at = i;
     let mut passed = 0;

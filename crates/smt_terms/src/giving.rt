@@ -1,6 +1,6 @@
 //! Gives values to open lists.
 ghost use Rattle.std.specs.Prelude.{◌≡◌, ◌≤◌, ◌+◌, ◌++◌, reverse, OnOk};
-ghost use Rattle.smt_terms.specs.Cursor.{here, word_at};
+ghost use Rattle.smt_terms.specs.Cursor.{trees_from, word_at};
 ghost use Rattle.smt_terms.specs.Machine.{weight, load, base_of, Continues, Gives, GivesOn, PutsIn, binds_in};
 
 use crate::cursor::{binding_at, text_at};
@@ -35,7 +35,7 @@ pub(crate) fn enter_binding(
     body: u32,
 ) -> Result<u32, Memory>
     ensures { Continues tree.now frames.new.items bound.new (base_of (reverse frames.old.items) bound.old)
-        (1 + weight tree.now (here tree.now next) + weight tree.now (here tree.now body) + weight tree.now (here tree.now round.now.after) + load tree.now (reverse frames.old.items))
+        (1 + weight tree.now (trees_from tree.now next) + weight tree.now (trees_from tree.now body) + weight tree.now (trees_from tree.now round.now.after) + load tree.now (reverse frames.old.items))
         result (binds_in tree.now frames.old.items bound.old round.now.paren round.now.head round.now.after done.items next body) }
 {
     match binding_at(tree, next) {

@@ -3,6 +3,7 @@
 
 mod bodies;
 mod checks;
+mod context;
 mod cursor;
 mod elaborate;
 mod foralls;
@@ -10,6 +11,7 @@ mod form;
 mod frame;
 mod given;
 mod giving;
+mod heading;
 mod inside;
 mod next;
 mod numbers;
@@ -26,6 +28,7 @@ mod work;
 
 pub use bodies::{check_few_bindings, other_sort_at, variables_at};
 pub use checks::{check_at_least, check_at_most, check_exactly, check_names, check_no_more};
+pub use context::Context;
 pub use cursor::{
     Binding, Seen, behind_one, behind_some, binding_at, kind_at, look, place_at, text_at,
 };

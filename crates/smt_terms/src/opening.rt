@@ -3,10 +3,11 @@ ghost use Rattle.std.specs.Prelude.{◌≡◌, ◌<◌, ◌+◌, true, length};
 ghost use Rattle.smt_names.specs.Names.{State, bound_as};
 ghost use Rattle.smt_terms.specs.declared.inside.Inside.{Inside};
 ghost use Rattle.smt_terms.specs.Terms.{form_of, form_value, let_value, annotated_value, forall_value, unbound_value, list_value};
-ghost use Rattle.smt_terms.specs.Cursor.{word_at, here, SeesList, SeesToken};
+ghost use Rattle.smt_terms.specs.Cursor.{word_at, trees_from, SeesList, SeesToken};
 ghost use Rattle.smt_terms.specs.Machine.{IsHeadOf, Opens, OpensForall, work_in};
 
 use crate::checks::{check_attributes, check_bindings, check_exactly};
+use crate::context::Context;
 use crate::cursor::{Seen, kind_at, look, place_at, text_at};
 use crate::form::Form;
 use crate::frame::Frame;
@@ -47,28 +48,22 @@ fn open_let(
     after: u32,
 ) -> Result<Opened, Stop>
     requires { SeesToken tree.now (i + 1) }
-    ensures { (state : State) (inside : Inside) → Opens tree.now state inside frames.old.items bound.old frames.new.items bound.new i after (3 + work_in tree.now frames.old.items (i + 2) after) (let_value (word_at tree.now (i + 1)).place (here tree.now (i + 2))) result }
+    ensures { (state : State) (inside : Inside) → Opens tree.now state inside frames.old.items bound.old frames.new.items bound.new i after (3 + work_in tree.now frames.old.items (i + 2) after) (let_value (word_at tree.now (i + 1)).place (trees_from tree.now (i + 2))) result }
 {
     let _len = tree.len();
     let head = place_at(tree, i + 1);
     let parts = i + 2;
-    match check_exactly(alloc, tree, parts, 2, head) {
-        Err(stop) => Err(stop),
-        Ok(()) => match check_bindings(alloc, tree, parts, head) {
-            Err(stop) => Err(stop),
-            Ok(body) => {
-                let round = Round {
-                    paren: place_at(tree, i),
-                    head,
-                    after,
-                };
-                let none = Vec::new(alloc);
-                match enter_binding(tree, frames, bound, &round, none, parts + 1, body) {
-                    Err(_) => Err(Stop::Memory),
-                    Ok(at) => Ok(Opened::At(at)),
-                }
-            }
-        },
+    check_exactly(alloc, tree, parts, 2, head)?;
+    let body = check_bindings(alloc, tree, parts, head)?;
+    let round = Round {
+        paren: place_at(tree, i),
+        head,
+        after,
+    };
+    let none = Vec::new(alloc);
+    match enter_binding(tree, frames, bound, &round, none, parts + 1, body) {
+        Err(_) => Err(Stop::Memory),
+        Ok(at) => Ok(Opened::At(at)),
     }
 }
 
@@ -82,22 +77,18 @@ fn open_annotated(
     after: u32,
 ) -> Result<Opened, Stop>
     requires { SeesToken tree.now (i + 1) }
-    ensures { (state : State) (inside : Inside) → Opens tree.now state inside frames.old.items bound.now frames.new.items bound.now i after (3 + work_in tree.now frames.old.items (i + 2) after) (annotated_value (word_at tree.now (i + 1)).place (here tree.now (i + 2))) result }
+    ensures { (state : State) (inside : Inside) → Opens tree.now state inside frames.old.items bound.now frames.new.items bound.now i after (3 + work_in tree.now frames.old.items (i + 2) after) (annotated_value (word_at tree.now (i + 1)).place (trees_from tree.now (i + 2))) result }
 {
     let _len = tree.len();
     let head = place_at(tree, i + 1);
-    match check_attributes(alloc, tree, i + 2, head) {
-        Err(stop) => Err(stop),
-        Ok(()) => {
-            frames.push(Frame {
-                paren: place_at(tree, i),
-                head,
-                after,
-                work: Work::Pass { bound: bound.len() },
-            })?;
-            Ok(Opened::At(i + 2))
-        }
-    }
+    check_attributes(alloc, tree, i + 2, head)?;
+    frames.push(Frame {
+        paren: place_at(tree, i),
+        head,
+        after,
+        work: Work::Pass { bound: bound.len() },
+    })?;
+    Ok(Opened::At(i + 2))
 }
 
 /// What a name stands for, where it stands for something.
@@ -123,7 +114,7 @@ fn open_application(
     after: u32,
 ) -> Result<Opened, Stop>
     requires { SeesToken tree.now (i + 1) }
-    ensures { (inside : Inside) → Opens tree.now state.now inside frames.old.items bound.now frames.new.items bound.now i after (3 + work_in tree.now frames.old.items (i + 2) after) (form_value (word_at tree.now i).place (word_at tree.now (i + 1)) (here tree.now (i + 2)) Form.Application) result }
+    ensures { (inside : Inside) → Opens tree.now state.now inside frames.old.items bound.now frames.new.items bound.now i after (3 + work_in tree.now frames.old.items (i + 2) after) (form_value (word_at tree.now i).place (word_at tree.now (i + 1)) (trees_from tree.now (i + 2)) Form.Application) result }
 {
     let _len = tree.len();
     let head = place_at(tree, i + 1);
@@ -163,18 +154,21 @@ fn open_universal(alloc: Global, tree: &Tree, inside: Inside, i: u32) -> Result<
 
 /// A list begins whose head is a symbol.
 fn open_form(
-    alloc: Global,
-    state: &SessionState,
-    tree: &Tree,
+    context: &Context<'_>,
     frames: &mut Vec<Frame>,
     bound: &mut BoundNames,
-    inside: Inside,
     i: u32,
     after: u32,
 ) -> Result<Opened, Stop>
-    requires { SeesToken tree.now (i + 1) }
-    ensures { Opens tree.now state.now inside frames.old.items bound.old frames.new.items bound.new i after (3 + work_in tree.now frames.old.items (i + 2) after) (form_value (word_at tree.now i).place (word_at tree.now (i + 1)) (here tree.now (i + 2)) (form_of (word_at tree.now (i + 1)).text)) result }
+    requires { SeesToken context.now.tree.now (i + 1) }
+    ensures { Opens context.now.tree.now context.now.state.now context.now.inside frames.old.items bound.old frames.new.items bound.new i after (3 + work_in context.now.tree.now frames.old.items (i + 2) after) (form_value (word_at context.now.tree.now i).place (word_at context.now.tree.now (i + 1)) (trees_from context.now.tree.now (i + 2)) (form_of (word_at context.now.tree.now (i + 1)).text)) result }
 {
+    let Context {
+        alloc,
+        state,
+        tree,
+        inside,
+    } = *context;
     let _len = tree.len();
     let head = place_at(tree, i + 1);
     match form_of_head(text_at(tree, i + 1)) {
@@ -188,18 +182,16 @@ fn open_form(
 
 /// A list begins.
 pub(crate) fn open_list(
-    alloc: Global,
-    state: &SessionState,
-    tree: &Tree,
+    context: &Context<'_>,
     frames: &mut Vec<Frame>,
     bound: &mut BoundNames,
-    inside: Inside,
     i: u32,
     after: u32,
 ) -> Result<Opened, Stop>
-    requires { SeesList tree.now i after }
-    ensures { Opens tree.now state.now inside frames.old.items bound.old frames.new.items bound.new i after (2 + work_in tree.now frames.old.items (i + 1) after) (list_value (word_at tree.now i) (here tree.now (i + 1))) result }
+    requires { SeesList context.now.tree.now i after }
+    ensures { Opens context.now.tree.now context.now.state.now context.now.inside frames.old.items bound.old frames.new.items bound.new i after (2 + work_in context.now.tree.now frames.old.items (i + 1) after) (list_value (word_at context.now.tree.now i) (trees_from context.now.tree.now (i + 1))) result }
 {
+    let Context { alloc, tree, .. } = *context;
     let _len = tree.len();
     let head = i + 1;
     match look(tree, head) {
@@ -207,7 +199,7 @@ pub(crate) fn open_list(
         Seen::List { .. } => Err(Stop::at(alloc, Refusal::NotInProfile, place_at(tree, head))),
         Seen::Token => {
             if is_symbol(kind_at(tree, head)) {
-                open_form(alloc, state, tree, frames, bound, inside, i, after)
+                open_form(context, frames, bound, i, after)
             } else {
                 Err(Stop::at(alloc, Refusal::BadForm, place_at(tree, head)))
             }

@@ -8,12 +8,13 @@ ghost use Rattle.smt_terms.specs.Terms.{stood_for, free_value, name_value, token
 ghost use Rattle.smt_terms.specs.Cursor.{word_at};
 ghost use Rattle.smt_terms.specs.Machine.{scope_of};
 
+use crate::context::Context;
 use crate::cursor::{kind_at, place_at, text_at};
 use crate::inside::Inside;
 use formula_draft::{DraftRow, FormulaDraft};
 use smt_forms::{Site, apply, put_row};
 use smt_names::{BoundNames, Head, Refusal, SessionState, Stands, Stop, Value, is_reserved};
-use smt_text::{Kind, Place, Tree};
+use smt_text::{Kind, Place};
 use std::alloc::Global;
 
 /// Whether a value may stand where it does: inside a forall a formula must have a complement.
@@ -95,19 +96,29 @@ fn put_name(
 /// What a token stands for.
 #[tactic(auto, unfolding(crate::specs::Terms::token_value))]
 pub(crate) fn put_token(
-    alloc: Global,
+    context: &Context<'_>,
     draft: &mut FormulaDraft,
-    state: &SessionState,
-    tree: &Tree,
     bound: &BoundNames,
-    inside: Inside,
     i: u32,
 ) -> Result<Value, Stop>
-    ensures { Makes result draft.old draft.new (token_value (scope_of state.now inside bound.now) (word_at tree.now i)) }
+    ensures { Makes result draft.old draft.new (token_value (scope_of context.now.state.now context.now.inside bound.now) (word_at context.now.tree.now i)) }
 {
+    let alloc = context.alloc;
+    let tree = context.tree;
     let place = place_at(tree, i);
     match kind_at(tree, i) {
-        Kind::Symbol => put_name(alloc, draft, state, bound, inside, place, text_at(tree, i)),
+        Kind::Symbol => {
+            let name = text_at(tree, i);
+            put_name(
+                alloc,
+                draft,
+                context.state,
+                bound,
+                context.inside,
+                place,
+                name,
+            )
+        }
         Kind::Left | Kind::Right | Kind::Keyword => Err(Stop::at(alloc, Refusal::BadForm, place)),
         Kind::Numeral | Kind::Decimal | Kind::Hex | Kind::Binary | Kind::Text => {
             Err(Stop::at(alloc, Refusal::NotInProfile, place))

@@ -4,17 +4,17 @@ ghost use Rattle.smt_names.specs.Makes.{Makes, MakesItems};
 ghost use Rattle.smt_names.specs.Names.{is_keyword as keyword};
 ghost use Rattle.smt_terms.specs.Terms.{value, pattern_root, pattern_roots, trigger as trigger_so, triggers as triggers_so};
 ghost use Rattle.smt_terms.specs.Triggers.{MaySeeTree, HasNumber, HasPatterns, listed_trigger};
-ghost use Rattle.smt_terms.specs.Cursor.{word_at, here};
+ghost use Rattle.smt_terms.specs.Cursor.{word_at, trees_from};
 ghost use Rattle.smt_terms.specs.Bodies.{attribute_at, attributes_at};
 ghost use Rattle.smt_terms.specs.Machine.{scope_of};
 
 use crate::checks::{check_at_least, check_no_more};
+use crate::context::Context;
 use crate::cursor::{Seen, behind_some, kind_at, look, place_at};
-use crate::inside::Inside;
 use crate::values::value_inside;
 use formula_draft::FormulaDraft;
 use graph_trigger::{Trigger, Triggers};
-use smt_names::{Bound, BoundNames, Refusal, SessionState, Stop, is_keyword};
+use smt_names::{Bound, BoundNames, Refusal, Stop, is_keyword};
 use smt_patterns::{root_of_pattern, trigger_of_roots};
 use smt_text::{Place, Tree};
 use std::alloc::Global;
@@ -35,44 +35,38 @@ fn behind_next(tree: &Tree, i: u32) -> Option<u32>
 
 /// The root of the pattern that comes next.
 fn put_root(
-    alloc: Global,
+    context: &Context<'_>,
     draft: &mut FormulaDraft,
-    state: &SessionState,
-    tree: &Tree,
     bound: &mut BoundNames,
-    inside: Inside,
     at: u32,
 ) -> Result<u32, Stop>
-    requires { inside.in_forall ≡ true }
-    ensures value { Makes result draft.old draft.new (pattern_root (word_at tree.now at).place (value (word_at tree.now at).place (scope_of state.now inside bound.old) (here tree.now at))) }
+    requires { context.now.inside.in_forall ≡ true }
+    ensures value { Makes result draft.old draft.new (pattern_root (word_at context.now.tree.now at).place (value (word_at context.now.tree.now at).place (scope_of context.now.state.now context.now.inside bound.old) (trees_from context.now.tree.now at))) }
     ensures bound { OnOk result (bound.new ≡ bound.old) }
 {
-    let place = place_at(tree, at);
-    let value = value_inside(alloc, draft, state, tree, bound, inside, at, place)?;
-    root_of_pattern(alloc, draft, place, value)
+    let place = place_at(context.tree, at);
+    let value = value_inside(context, draft, bound, at, place)?;
+    root_of_pattern(context.alloc, draft, place, value)
 }
 
 /// The roots of the patterns that come next, to the end of the list.
 fn put_roots(
-    alloc: Global,
+    context: &Context<'_>,
     draft: &mut FormulaDraft,
-    state: &SessionState,
-    tree: &Tree,
     bound: &mut BoundNames,
-    inside: Inside,
     at: u32,
 ) -> Result<Vec<u32>, Stop>
-    requires { inside.in_forall ≡ true }
-    ensures value { MakesItems result draft.old draft.new (pattern_roots (scope_of state.now inside bound.old) (here tree.now at)) }
+    requires { context.now.inside.in_forall ≡ true }
+    ensures value { MakesItems result draft.old draft.new (pattern_roots (scope_of context.now.state.now context.now.inside bound.old) (trees_from context.now.tree.now at)) }
     ensures bound { OnOk result (bound.new ≡ bound.old) }
 {
-    let mut roots = Vec::new(alloc);
+    let mut roots = Vec::new(context.alloc);
     let mut i = at;
     loop {
-        match behind_next(tree, i) {
+        match behind_next(context.tree, i) {
             None => return Ok(roots),
             Some(after) => {
-                match put_root(alloc, draft, state, tree, bound, inside, i) {
+                match put_root(context, draft, bound, i) {
                     Err(stop) => return Err(stop),
                     Ok(root) => roots.push(root)?,
                 }
@@ -84,41 +78,32 @@ fn put_roots(
 
 /// The trigger of the patterns that come next, to the end of the list.
 fn put_listed(
-    alloc: Global,
+    context: &Context<'_>,
     draft: &mut FormulaDraft,
-    state: &SessionState,
-    tree: &Tree,
     bound: &mut BoundNames,
-    inside: Inside,
     variables: &[Bound],
     paren: Place,
     at: u32,
 ) -> Result<Trigger, Stop>
-    requires { inside.in_forall ≡ true }
-    ensures value { Makes result draft.old draft.new (listed_trigger (scope_of state.now inside bound.old) variables.now paren (here tree.now at)) }
+    requires { context.now.inside.in_forall ≡ true }
+    ensures value { Makes result draft.old draft.new (listed_trigger (scope_of context.now.state.now context.now.inside bound.old) variables.now paren (trees_from context.now.tree.now at)) }
     ensures bound { OnOk result (bound.new ≡ bound.old) }
 {
-    match put_roots(alloc, draft, state, tree, bound, inside, at) {
-        Err(stop) => Err(stop),
-        Ok(roots) => trigger_of_roots(alloc, draft, variables, paren, roots.as_slice()),
-    }
+    let roots = put_roots(context, draft, bound, at)?;
+    trigger_of_roots(context.alloc, draft, variables, paren, roots.as_slice())
 }
 
 /// One to sixteen patterns come next, to the end of the list.
 fn check_number(alloc: Global, tree: &Tree, i: u32, paren: Place) -> Result<(), Stop>
     ensures { HasNumber tree.now i paren result }
 {
-    match check_at_least(alloc, tree, i, 1, paren) {
-        Err(stop) => Err(stop),
-        Ok(()) => {
-            check_no_more(
-                alloc,
-                tree,
-                behind_some(tree, i, 16),
-                Refusal::TooManyPatterns,
-            )
-        }
-    }
+    check_at_least(alloc, tree, i, 1, paren)?;
+    check_no_more(
+        alloc,
+        tree,
+        behind_some(tree, i, 16),
+        Refusal::TooManyPatterns,
+    )
 }
 
 /// The place of the tree or of the keyword at which a list of patterns is missing.
@@ -147,56 +132,39 @@ fn check_patterns(alloc: Global, tree: &Tree, key: u32) -> Result<(), Stop>
 
 /// The trigger whose keyword stands at a place.
 fn put_trigger(
-    alloc: Global,
+    context: &Context<'_>,
     draft: &mut FormulaDraft,
-    state: &SessionState,
-    tree: &Tree,
     bound: &mut BoundNames,
-    inside: Inside,
     variables: &[Bound],
     key: u32,
 ) -> Result<Trigger, Stop>
-    requires { inside.in_forall ≡ true }
-    ensures value { Makes result draft.old draft.new (trigger_so (scope_of state.now inside bound.old) variables.now (attribute_at tree.now key)) }
+    requires { context.now.inside.in_forall ≡ true }
+    ensures value { Makes result draft.old draft.new (trigger_so (scope_of context.now.state.now context.now.inside bound.old) variables.now (attribute_at context.now.tree.now key)) }
     ensures bound { OnOk result (bound.new ≡ bound.old) }
 {
     if key >= u32::MAX - 2 {
         return Err(Stop::Memory);
     }
-    match check_patterns(alloc, tree, key) {
-        Err(stop) => Err(stop),
-        Ok(()) => put_listed(
-            alloc,
-            draft,
-            state,
-            tree,
-            bound,
-            inside,
-            variables,
-            place_at(tree, key + 1),
-            key + 2,
-        ),
-    }
+    check_patterns(context.alloc, context.tree, key)?;
+    let paren = place_at(context.tree, key + 1);
+    put_listed(context, draft, bound, variables, paren, key + 2)
 }
 
 /// The triggers whose keywords stand at these places.
 pub(crate) fn put_triggers(
-    alloc: Global,
+    context: &Context<'_>,
     draft: &mut FormulaDraft,
-    state: &SessionState,
-    tree: &Tree,
     bound: &mut BoundNames,
-    inside: Inside,
     variables: &[Bound],
     keys: &[u32],
 ) -> Result<Triggers, Stop>
-    requires { inside.in_forall ≡ true }
-    ensures value { Makes result draft.old draft.new (triggers_so (scope_of state.now inside bound.old) variables.now (attributes_at tree.now keys.now)) }
+    requires { context.now.inside.in_forall ≡ true }
+    ensures value { Makes result draft.old draft.new (triggers_so (scope_of context.now.state.now context.now.inside bound.old) variables.now (attributes_at context.now.tree.now keys.now)) }
     ensures bound { OnOk result (bound.new ≡ bound.old) }
 {
-    let mut triggers = Triggers::new(alloc);
+    let mut triggers = Triggers::new(context.alloc);
     for key in keys {
-        match put_trigger(alloc, draft, state, tree, bound, inside, variables, *key) {
+        match put_trigger(context, draft, bound, variables, *key) {
             Err(stop) => return Err(stop),
             Ok(trigger) => triggers.push(trigger)?,
         }

@@ -4,47 +4,34 @@ ghost use Rattle.smt_names.specs.declared.refusal.Refusal.TheVariants.{WrongSort
 ghost use Rattle.smt_names.specs.Making.{want};
 ghost use Rattle.smt_names.specs.Value.{sort_of};
 ghost use Rattle.smt_names.specs.Makes.{Makes, Checks};
-ghost use Rattle.smt_terms.specs.Meant.{first_place};
+ghost use Rattle.smt_terms.specs.Reading.{first_place};
 ghost use Rattle.smt_terms.specs.Terms.{value};
-ghost use Rattle.smt_terms.specs.Cursor.{here};
+ghost use Rattle.smt_terms.specs.Cursor.{trees_from};
 ghost use Rattle.smt_terms.specs.Machine.{scope_of};
 
+use crate::context::Context;
 use crate::cursor::{Seen, look, place_at};
-use crate::inside::Inside;
 use crate::walked::Walked;
 use crate::walking::walk;
 use formula_draft::FormulaDraft;
-use smt_names::{BoundNames, Refusal, SessionState, Stop, Value};
+use smt_names::{BoundNames, Refusal, Stop, Value};
 use smt_text::{Place, Tree};
 use std::alloc::Global;
 
 /// The value of the tree at a place inside a forall, where no further forall may stand.
 pub(crate) fn value_inside(
-    alloc: Global,
+    context: &Context<'_>,
     draft: &mut FormulaDraft,
-    state: &SessionState,
-    tree: &Tree,
     bound: &mut BoundNames,
-    inside: Inside,
     at: u32,
     missing: Place,
 ) -> Result<Value, Stop>
-    requires { inside.in_forall ≡ true }
-    ensures value { Makes result draft.old draft.new (value missing (scope_of state.now inside bound.old) (here tree.now at)) }
+    requires { context.now.inside.in_forall ≡ true }
+    ensures value { Makes result draft.old draft.new (value missing (scope_of context.now.state.now context.now.inside bound.old) (trees_from context.now.tree.now at)) }
     ensures bound { OnOk result (bound.new ≡ bound.old) }
 {
-    let mut frames = Vec::new(alloc);
-    match walk(
-        alloc,
-        draft,
-        state,
-        tree,
-        missing,
-        &mut frames,
-        bound,
-        inside,
-        at,
-    ) {
+    let mut frames = Vec::new(context.alloc);
+    match walk(context, draft, missing, &mut frames, bound, at) {
         Err(stop) => Err(stop),
         Ok(Walked::Whole(value)) => Ok(value),
         Ok(Walked::Universal { .. }) => unreachable!(),
@@ -53,7 +40,7 @@ pub(crate) fn value_inside(
 
 /// The place of the tree that comes next, and the other where none does.
 fn first_place_at(tree: &Tree, i: u32, missing: Place) -> Place
-    ensures { result ≡ first_place missing (here tree.now i) }
+    ensures { result ≡ first_place missing (trees_from tree.now i) }
 {
     match look(tree, i) {
         Seen::End => missing,
@@ -80,7 +67,7 @@ pub(crate) fn check_truth(
     missing: Place,
     value: &Value,
 ) -> Result<(), Stop>
-    ensures { Checks result (want (sort_of value.now == 0) WrongSort (first_place missing (here tree.now at))) }
+    ensures { Checks result (want (sort_of value.now == 0) WrongSort (first_place missing (trees_from tree.now at))) }
 {
     if is_formula(value) {
         Ok(())

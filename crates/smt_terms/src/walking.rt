@@ -4,16 +4,16 @@ ghost use Rattle.smt_text.specs.declared.token.Place.{Place};
 ghost use Rattle.formula_draft.specs.Draft.{Draft};
 ghost use Rattle.smt_names.specs.Makes.{Makes};
 ghost use Rattle.smt_terms.specs.Terms.{list_value};
-ghost use Rattle.smt_terms.specs.Cursor.{word_at, here, SeesList, SeesToken};
-ghost use Rattle.smt_terms.specs.Meant.{End};
+ghost use Rattle.smt_terms.specs.Cursor.{word_at, trees_from, SeesList, SeesToken};
+ghost use Rattle.smt_terms.specs.Reading.{End};
 ghost use Rattle.smt_terms.specs.declared.inside.Inside.{Inside};
 ghost use Rattle.smt_names.specs.declared.bound.Bound.{Bound};
 ghost use Rattle.smt_terms.specs.Machine.{Steps, Walks, scope_of, goes_by, step_of, step_for};
 
+use crate::context::Context;
 use crate::cursor::{Seen, look, place_at, text_at};
 use crate::frame::Frame;
 use crate::giving::give;
-use crate::inside::Inside;
 use crate::next::Next;
 use crate::opened::Opened;
 use crate::opening::open_list;
@@ -77,18 +77,22 @@ fn step_into(opened: Opened, at: u32, after: u32) -> Step
 
 /// The innermost list ends: its value goes to the list round it.
 fn close(
-    alloc: Global,
+    context: &Context<'_>,
     draft: &mut FormulaDraft,
-    state: &SessionState,
-    tree: &Tree,
     missing: Place,
     frames: &mut Vec<Frame>,
     bound: &mut BoundNames,
     i: u32,
 ) -> Result<Step, Stop>
-    requires { here tree.now i ≡ End }
-    ensures { (inside : Inside) → Steps tree.now state.now inside missing frames.old.items bound.old frames.new.items bound.new draft.old draft.new i result }
+    requires { trees_from context.now.tree.now i ≡ End }
+    ensures { Steps context.now.tree.now context.now.state.now context.now.inside missing frames.old.items bound.old frames.new.items bound.new draft.old draft.new i result }
 {
+    let Context {
+        alloc,
+        state,
+        tree,
+        ..
+    } = *context;
     match frames.pop() {
         None => Err(Stop::at(alloc, Refusal::BadForm, missing)),
         Some(frame) => match value_of_list(alloc, draft, state, tree, &frame) {
@@ -113,89 +117,72 @@ fn close(
 
 /// A token that is a tree: its value goes to the innermost list.
 fn pass_token(
-    alloc: Global,
+    context: &Context<'_>,
     draft: &mut FormulaDraft,
-    state: &SessionState,
-    tree: &Tree,
     frames: &mut Vec<Frame>,
     bound: &mut BoundNames,
-    inside: Inside,
     i: u32,
 ) -> Result<Step, Stop>
-    requires { SeesToken tree.now i }
-    ensures { (missing : Place) → Steps tree.now state.now inside missing frames.old.items bound.old frames.new.items bound.new draft.old draft.new i result }
+    requires { SeesToken context.now.tree.now i }
+    ensures { (missing : Place) → Steps context.now.tree.now context.now.state.now context.now.inside missing frames.old.items bound.old frames.new.items bound.new draft.old draft.new i result }
 {
+    let Context { alloc, tree, .. } = *context;
     let _len = tree.len();
-    match put_token(alloc, draft, state, tree, bound, inside, i) {
-        Err(stop) => Err(stop),
-        Ok(value) => {
-            let place = place_at(tree, i);
-            match give(alloc, tree, frames, bound, i + 1, Arg { place, value }) {
-                Err(_) => Err(Stop::Memory),
-                Ok(next) => Ok(step_to(next)),
-            }
-        }
+    let value = put_token(context, draft, bound, i)?;
+    let place = place_at(tree, i);
+    match give(alloc, tree, frames, bound, i + 1, Arg { place, value }) {
+        Err(_) => Err(Stop::Memory),
+        Ok(next) => Ok(step_to(next)),
     }
 }
 
 /// A list begins.
 fn enter_list(
-    alloc: Global,
-    state: &SessionState,
-    tree: &Tree,
+    context: &Context<'_>,
     frames: &mut Vec<Frame>,
     bound: &mut BoundNames,
-    inside: Inside,
     i: u32,
     after: u32,
 ) -> Result<Step, Stop>
-    requires { SeesList tree.now i after }
-    ensures { (missing : Place) (draft : Draft) → Steps tree.now state.now inside missing frames.old.items bound.old frames.new.items bound.new draft draft i result }
+    requires { SeesList context.now.tree.now i after }
+    ensures { (missing : Place) (draft : Draft) → Steps context.now.tree.now context.now.state.now context.now.inside missing frames.old.items bound.old frames.new.items bound.new draft draft i result }
 {
-    match open_list(alloc, state, tree, frames, bound, inside, i, after) {
-        Err(stop) => Err(stop),
-        Ok(opened) => Ok(step_into(opened, i, after)),
-    }
+    let opened = open_list(context, frames, bound, i, after)?;
+    Ok(step_into(opened, i, after))
 }
 
 /// One step: a list ends, a token is passed, or a list begins.
 fn step(
-    alloc: Global,
+    context: &Context<'_>,
     draft: &mut FormulaDraft,
-    state: &SessionState,
-    tree: &Tree,
     missing: Place,
     frames: &mut Vec<Frame>,
     bound: &mut BoundNames,
-    inside: Inside,
     i: u32,
 ) -> Result<Step, Stop>
-    ensures { Steps tree.now state.now inside missing frames.old.items bound.old frames.new.items bound.new draft.old draft.new i result }
+    ensures { Steps context.now.tree.now context.now.state.now context.now.inside missing frames.old.items bound.old frames.new.items bound.new draft.old draft.new i result }
 {
-    match look(tree, i) {
-        Seen::End => close(alloc, draft, state, tree, missing, frames, bound, i),
-        Seen::Token => pass_token(alloc, draft, state, tree, frames, bound, inside, i),
-        Seen::List { after } => enter_list(alloc, state, tree, frames, bound, inside, i, after),
+    match look(context.tree, i) {
+        Seen::End => close(context, draft, missing, frames, bound, i),
+        Seen::Token => pass_token(context, draft, frames, bound, i),
+        Seen::List { after } => enter_list(context, frames, bound, i, after),
     }
 }
 
 /// Goes on up to a forall outside foralls and definitions, or to the value of the whole.
 pub(crate) fn walk(
-    alloc: Global,
+    context: &Context<'_>,
     draft: &mut FormulaDraft,
-    state: &SessionState,
-    tree: &Tree,
     missing: Place,
     frames: &mut Vec<Frame>,
     bound: &mut BoundNames,
-    inside: Inside,
     from: u32,
 ) -> Result<Walked, Stop>
-    ensures { Walks tree.now state.now inside missing frames.old.items bound.old frames.new.items bound.new draft.old draft.new from result }
+    ensures { Walks context.now.tree.now context.now.state.now context.now.inside missing frames.old.items bound.old frames.new.items bound.new draft.old draft.new from result }
 {
     let mut i = from;
     loop {
-        match step(alloc, draft, state, tree, missing, frames, bound, inside, i) {
+        match step(context, draft, missing, frames, bound, i) {
             Err(stop) => return Err(stop),
             Ok(Step::Whole(value)) => return Ok(Walked::Whole(value)),
             Ok(Step::Universal { at, after }) => return Ok(Walked::Universal { at, after }),

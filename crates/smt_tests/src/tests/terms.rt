@@ -4,7 +4,7 @@ use formula_draft::{DraftForall, FormulaDraft};
 use graph_terms::Numbers;
 use graph_trigger::{PatternRow, Trigger};
 use smt_names::{BoundNames, Refusal, SessionState, Signature, Stop};
-use smt_terms::{Inside, elaborate_term};
+use smt_terms::{Context, Inside, elaborate_term};
 use smt_text::{Kind, Place, Tree, TreeReader};
 use std::alloc::Global;
 use std::process::Abort;
@@ -92,7 +92,13 @@ fn came_of_tree(alloc: Global, state: &SessionState, tree: &Tree) -> Came {
         in_forall: false,
         in_definition: false,
     };
-    match elaborate_term(alloc, &mut draft, state, tree, &mut bound, inside, 0, HERE) {
+    let context = Context {
+        alloc,
+        state,
+        tree,
+        inside,
+    };
+    match elaborate_term(&context, &mut draft, &mut bound, 0, HERE) {
         Err(Stop::Memory) => Came::Other,
         Err(Stop::Refused(fault)) => Refused(
             fault.refusal,

@@ -1,10 +1,13 @@
-use Rattle.smt_terms.specs.Cursor.{word_at, here}
+use Rattle.std.proofs.lemmas.Result.{err_from_is_err_and}
+use Rattle.smt_terms.specs.Cursor.{word_at, trees_from}
 use Rattle.smt_commands.specs.Commands.{keyword_first, one_or_two}
 use Rattle.smt_commands.proofs.Steps.{refused_first, checks_after}
 use Rattle.smt_commands.proofs.reading.check_key.Goals as goal
 
-pub returns-in-Err : goal.returns-in-Err
-returns-in-Err c draft = refused_first (λ (_ : Unit {0}). keyword_first c.args.head (here c.args.tree.now c.args.i)) c.in-Err.stop (one_or_two c.args.head (here c.args.tree.now c.args.i) draft) (c.in-Err.ensures draft)
+pub returns-in_err-check_one_or_two : goal.returns-in_err-check_one_or_two
+returns-in_err-check_one_or_two c =
+    let p = err_from_is_err_and c.from_residual.result c.from_residual.ensures.1 in rw (p.1, p.2)
+    (λ draft. refused_first (λ (_ : Unit {0}). keyword_first c.args.head (trees_from c.args.tree.now c.args.i)) c.in_err-check_one_or_two.field-0.0 (one_or_two c.args.head (trees_from c.args.tree.now c.args.i) draft) (c.in_err-check_one_or_two.ensures draft))
 
-pub returns-in-Ok : goal.returns-in-Ok
-returns-in-Ok c = checks_after (λ (_ : Unit {0}). keyword_first c.args.head (here c.args.tree.now c.args.i)) c.check_keyword.result (one_or_two c.args.head (here c.args.tree.now c.args.i)) _ (word_at c.args.tree.now c.args.i) c.in-Ok.ensures c.check_keyword.ensures
+pub returns : goal.returns
+returns c = checks_after (λ (_ : Unit {0}). keyword_first c.args.head (trees_from c.args.tree.now c.args.i)) c.check_keyword.result (one_or_two c.args.head (trees_from c.args.tree.now c.args.i)) _ (word_at c.args.tree.now c.args.i) c.in_ok-check_one_or_two.ensures c.check_keyword.ensures

@@ -1,8 +1,5 @@
 use Rattle.smt_terms.proofs.walking.step.Goals as goal
 
-pub returns-in-End : goal.returns-in-End
-returns-in-End c = c.close.ensures c.args.inside
-
 pub returns-in-Token : goal.returns-in-Token
 returns-in-Token c = c.pass_token.ensures c.args.missing
 
