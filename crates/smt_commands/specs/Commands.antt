@@ -13,7 +13,7 @@ use Rattle.smt_names.specs.declared.syntax_fault.SyntaxFault.{SyntaxFault}
 use Rattle.smt_names.specs.declared.refusal.Refusal.TheVariants as refusal
 use Rattle.smt_names.specs.declared.signature.Signature.{Signature}
 use Rattle.smt_names.specs.Value.{sort_of, self}
-use Rattle.smt_names.specs.Making.{Making, made, ◌>>=◌, ◌>>◌, want, bad_form, not_in_profile}
+use Rattle.smt_names.specs.Making.{Making, gives, ◌>>=◌, ◌>>◌, must_hold, bad_form, not_in_profile}
 use Rattle.smt_names.specs.Names.{State, Scope, Declared, with_sort, with_function, is_symbol}
 use Rattle.smt_names.specs.Names.{is_keyword, is_numeral, is_wide, number_of, new_function_name, new_sort_name}
 use Rattle.smt_names.specs.Names.{at_start, cleared, pushed, popped}
@@ -37,7 +37,7 @@ pub record Answer : Type 0 where
 
 -- the command changes nothing
 abbrev pub answer : State → Command → Making Answer
-answer state command = made (record { command = command; state = state })
+answer state command = gives (record { command = command; state = state })
 
 abbrev pub silent : State → Making Answer
 silent state = answer state Silent
@@ -45,28 +45,28 @@ silent state = answer state Silent
 -- Parts of commands.
 -- a value of an option or an information: a token that is no keyword, or a list; it may be missing
 abbrev pub plain_value : Meant → Making (Unit {0})
-plain_value End = made tt
-plain_value (Token word trees) = want (not (is_keyword word.kind || is_wide word)) refusal.BadForm word.place
-plain_value (Group paren meaning inner trees) = made tt
+plain_value End = gives tt
+plain_value (Token word trees) = must_hold (not (is_keyword word.kind || is_wide word)) refusal.BadForm word.place
+plain_value (Group paren meaning inner trees) = gives tt
 
 abbrev pub keyword_first : Place → Meant → Making Word
 keyword_first head parts = do
   key ← token_first head parts
-  want (is_keyword key.kind) refusal.BadForm key.place
-  made key
+  must_hold (is_keyword key.kind) refusal.BadForm key.place
+  gives key
 
 abbrev pub symbol_first : Place → Meant → Making Word
 symbol_first head parts = do
   word ← token_first head parts
-  want (is_symbol word.kind) refusal.BadForm word.place
-  made word
+  must_hold (is_symbol word.kind) refusal.BadForm word.place
+  gives word
 
 -- a numeral of at most 128 bits
 abbrev pub numeral_first : Place → Meant → Making ℕ
 numeral_first head parts = do
   word ← token_first head parts
-  want (is_numeral word.kind && not (is_wide word)) refusal.BadForm word.place
-  made (number_of word)
+  must_hold (is_numeral word.kind && not (is_wide word)) refusal.BadForm word.place
+  gives (number_of word)
 
 -- Commands.
 -- one symbol
@@ -84,8 +84,8 @@ set_logic state head parts = do
 -- true or false
 abbrev pub truth_named : Word → Making Bool
 truth_named v =
-    if bytes_eq v.text (codes "true") then made true else
-    if bytes_eq v.text (codes "false") then made false else bad_form v.place
+    if bytes_eq v.text (codes "true") then gives true else
+    if bytes_eq v.text (codes "false") then gives false else bad_form v.place
 
 abbrev pub truth_first : Place → Meant → Making Bool
 truth_first head parts = do
@@ -141,20 +141,20 @@ set_info state head parts = do
 abbrev pub no_arguments : Place → Meant → Making (Unit {0})
 no_arguments head parts = do
   n ← numeral_first head parts
-  want (n == 0) refusal.NotInProfile (first_place head parts)
+  must_hold (n == 0) refusal.NotInProfile (first_place head parts)
 
 -- the first part, which may be the name of a sort
 abbrev pub new_sort : State → Place → Meant → Making Word
 new_sort state head parts = do
   name ← token_first head parts
   new_sort_name state name
-  made name
+  gives name
 
 abbrev pub plain_sort : State → Place → Meant → Making Word
 plain_sort state head parts = do
   name ← new_sort state head parts
   no_arguments head (from 1 parts)
-  made name
+  gives name
 
 -- a new name and 0
 abbrev pub sort_form : State → Place → Meant → Making Word
@@ -170,15 +170,15 @@ declare_sort state head parts = do
 
 -- sorts other than Bool, to the end of a list
 abbrev pub other_sorts : State → Place → Meant → Making (List ℕ)
-other_sorts state paren End = made []
+other_sorts state paren End = gives []
 other_sorts state paren (Token word trees) = do
   sort ← other_sort state paren (Token word trees)
   sorts ← other_sorts state paren trees
-  made (sort ∷ sorts)
+  gives (sort ∷ sorts)
 other_sorts state paren (Group p meaning inner trees) = do
   sort ← other_sort state paren (Group p meaning inner trees)
   sorts ← other_sorts state paren trees
-  made (sort ∷ sorts)
+  gives (sort ∷ sorts)
 
 abbrev pub signature : List ℕ → ℕ → Signature
 signature arguments sort = record { arguments = arguments; sort = sort }
@@ -188,7 +188,7 @@ abbrev pub new_function : State → Place → Meant → Making Word
 new_function state head parts = do
   name ← token_first head parts
   new_function_name state name
-  made name
+  gives name
 
 -- so many parts, of which the first may be the name of a function
 abbrev pub named_form : ℕ → State → Place → Meant → Making Word
@@ -213,7 +213,7 @@ abbrev pub signature_first : State → Place → Meant → Making Signature
 signature_first state head parts = do
   arguments ← arguments_first state head parts
   sort ← sort_first state head (from 1 parts)
-  made (signature arguments sort)
+  gives (signature arguments sort)
 
 -- (declare-fun s (S1 .. Sn) S)
 abbrev pub declare_fun : State → Place → Meant → Making Answer
@@ -226,7 +226,7 @@ declare_fun state head parts = do
 abbrev pub constant_first : State → Place → Meant → Making Signature
 constant_first state head parts = do
   sort ← sort_first state head parts
-  made (signature [] sort)
+  gives (signature [] sort)
 
 -- (declare-const s S)
 abbrev pub declare_const : State → Place → Meant → Making Answer
@@ -269,8 +269,8 @@ parameters_first state head parts = do
 abbrev pub sorted_value : Place → Scope → (sort : ℕ) → Meant → Making Value
 sorted_value head scope sort parts = do
   v ← value head scope parts
-  want (sort_of v == sort) refusal.WrongSort (first_place head parts)
-  made v
+  must_hold (sort_of v == sort) refusal.WrongSort (first_place head parts)
+  gives v
 
 -- what is defined of these parameters
 abbrev pub defined_by : State → Place → (name : List ℕ) → List Bound → (sorted given : Meant) → Making Answer
@@ -302,7 +302,7 @@ assert_truth state head parts = do
 
 -- how many levels are asked for, 1 where no number stands
 abbrev pub levels_asked : Place → Meant → Making ℕ
-levels_asked head End = made 1
+levels_asked head End = gives 1
 levels_asked head (Token word trees) = numeral_first head (Token word trees)
 levels_asked head (Group paren meaning inner trees) = bad_form paren.place
 
@@ -316,8 +316,8 @@ level_form head parts = do
 abbrev pub push_form : State → Place → Meant → Making ℕ
 push_form state head parts = do
   n ← level_form head parts
-  want (nat_le (length state.levels + n) state.limits.levels) refusal.LevelsFull (first_place head parts)
-  made n
+  must_hold (nat_le (length state.levels + n) state.limits.levels) refusal.LevelsFull (first_place head parts)
+  gives n
 
 -- (push n)
 abbrev pub push_levels : State → Place → Meant → Making Answer
@@ -329,8 +329,8 @@ push_levels state head parts = do
 abbrev pub pop_form : State → Place → Meant → Making ℕ
 pop_form state head parts = do
   n ← level_form head parts
-  want (nat_le n (length state.levels)) refusal.PopTooFar (first_place head parts)
-  made n
+  must_hold (nat_le n (length state.levels)) refusal.PopTooFar (first_place head parts)
+  gives n
 
 -- (pop n)
 abbrev pub pop_levels : State → Place → Meant → Making Answer

@@ -15,7 +15,7 @@ use Rattle.smt_names.specs.declared.syntax_fault.SyntaxFault.{SyntaxFault}
 use Rattle.smt_names.specs.declared.refusal.Refusal.{Refusal}
 use Rattle.smt_names.specs.declared.refusal.Refusal.TheVariants as refusal
 use Rattle.smt_names.specs.Value.{self}
-use Rattle.smt_names.specs.Making.{Making, then_from, want}
+use Rattle.smt_names.specs.Making.{Making, then_from, must_hold}
 use Rattle.smt_terms.specs.Meant.{Meant, Token, Group, first_place, sort_first}
 use Rattle.smt_names.specs.Names.{State}
 use Rattle.smt_terms.specs.Terms.{meant, variables_from}
@@ -124,7 +124,7 @@ gives_then : {A B : Type 0} {P : A → Type 0} {Q : B → Type 0} (rest : A → 
 gives_then rest (gives {v = v} {draft = draft} is) goes = goes v draft is
 gives_then rest gives_none goes = gives_none
 
-gives_want : (test : Bool) (refusal : Refusal) (place : Place) (draft : Draft) → Gives (λ _. test ≡ true) (want test refusal place draft)
+gives_want : (test : Bool) (refusal : Refusal) (place : Place) (draft : Draft) → Gives (λ _. test ≡ true) (must_hold test refusal place draft)
 gives_want true refusal place draft = gives refl
 gives_want false refusal place draft = gives_none
 

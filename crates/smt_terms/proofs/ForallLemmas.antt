@@ -11,7 +11,7 @@ use Rattle.smt_names.specs.declared.stop.Stop.{Stop}
 use Rattle.smt_names.specs.declared.syntax_fault.SyntaxFault.{SyntaxFault}
 use Rattle.smt_names.specs.declared.refusal.Refusal.{Refusal}
 use Rattle.smt_names.specs.declared.refusal.Refusal.TheVariants as refusal
-use Rattle.smt_names.specs.Making.{Making, made, then_from, ◌>>◌, ◌>>=◌}
+use Rattle.smt_names.specs.Making.{Making, gives, then_from, ◌>>◌, ◌>>=◌}
 use Rattle.smt_names.specs.Makes.{Refuses}
 use Rattle.smt_names.specs.Names.{State, Scope, bound_of}
 use Rattle.smt_terms.specs.Meant.{Meant, End, Token, Group, from, Listed, exactly, some_bindings, no_binding as refused_binding, other_sort, attributes_of}
@@ -37,7 +37,7 @@ variables_none state index (Group p meaning (Group q meant inner more) trees) dr
 
 -- the variables behind some
 abbrev pub behind_variables : List Bound → Result (List Bound × Draft) SyntaxFault → Result (List Bound × Draft) SyntaxFault
-behind_variables so_far more = then_from (λ (vs : List Bound). made (so_far ++ vs)) more
+behind_variables so_far more = then_from (λ (vs : List Bound). gives (so_far ++ vs)) more
 
 pub behind_none : (more : Result (List Bound × Draft) SyntaxFault) → behind_variables [] more ≡ more
 behind_none (Ok found) = refl
@@ -48,28 +48,28 @@ variables_end state index trees so_far draft none = ap (behind_variables so_far)
 
 module _ (words : List Word) (state : State) (at name behind index : ℕ) (sees : SeesBinding words at name behind) where
   variables_here : (draft : Draft) → variables_from state index (here words at) draft
-      ≡ then_from (λ (sort : ℕ). variables_from state (index + 1) (here words behind) >>= λ (vs : List Bound). made (record { name = (word_at words name).text; stands = Variable index sort } ∷ vs)) (other_sort state (word_at words name).place (here words (name + 1)) draft)
+      ≡ then_from (λ (sort : ℕ). variables_from state (index + 1) (here words behind) >>= λ (vs : List Bound). gives (record { name = (word_at words name).text; stands = Variable index sort } ∷ vs)) (other_sort state (word_at words name).place (here words (name + 1)) draft)
   variables_here draft = ap (λ (t : Meant). variables_from state index t draft) sees.is
 
   pub variables_next : (so_far more : List Bound) (text : List ℕ) (sort : ℕ) (draft : Draft) → other_sort state (word_at words name).place (here words (name + 1)) draft ≡ Ok (sort, draft)
       → text ≡ (word_at words name).text → more ≡ so_far ++ bound_of text (Variable index sort) ∷ []
       → behind_variables more (variables_from state (index + 1) (here words behind) draft) ≡ behind_variables so_far (variables_from state index (here words at) draft)
   variables_next so_far more text sort draft makes called all = sym
-      (ap (behind_variables so_far) (variables_here draft ∙ ap (then_from (λ (s : ℕ). variables_from state (index + 1) (here words behind) >>= λ (vs : List Bound). made (record { name = (word_at words name).text; stands = Variable index s } ∷ vs))) makes)
+      (ap (behind_variables so_far) (variables_here draft ∙ ap (then_from (λ (s : ℕ). variables_from state (index + 1) (here words behind) >>= λ (vs : List Bound). gives (record { name = (word_at words name).text; stands = Variable index s } ∷ vs))) makes)
       ∙ by (variables_from state (index + 1) (here words behind) draft))
     where
       named : more ≡ so_far ++ record { name = (word_at words name).text; stands = Variable index sort } ∷ []
       named = all ∙ ap (λ (t : List ℕ). so_far ++ bound_of t (Variable index sort) ∷ []) called
 
       by : (r : Result (List Bound × Draft) SyntaxFault)
-          → behind_variables so_far (then_from (λ (vs : List Bound). made (record { name = (word_at words name).text; stands = Variable index sort } ∷ vs)) r) ≡ behind_variables more r
+          → behind_variables so_far (then_from (λ (vs : List Bound). gives (record { name = (word_at words name).text; stands = Variable index sort } ∷ vs)) r) ≡ behind_variables more r
       by (Ok r) = ap (λ (vs : List Bound). Ok (vs, r.1)) (sym (append_assoc so_far (record { name = (word_at words name).text; stands = Variable index sort } ∷ []) r.0) ∙ ap (λ (xs : List Bound). xs ++ r.0) (sym named))
       by (Err fault) = refl
 
   pub variables_refused : (stopped : Stop) (so_far : List Bound) (whole : Making (List Bound)) → ((draft : Draft) → behind_variables so_far (variables_from state index (here words at) draft) ≡ whole draft)
       → ((draft : Draft) → Refuses stopped (other_sort state (word_at words name).place (here words (name + 1)) draft)) → (draft : Draft) → Refuses stopped (whole draft)
   variables_refused stopped so_far whole same refused draft = refuses_all stopped _ (whole draft)
-      (λ fault e. sym (same draft) ∙ ap (behind_variables so_far) (variables_here draft ∙ ap (then_from (λ (s : ℕ). variables_from state (index + 1) (here words behind) >>= λ (vs : List Bound). made (record { name = (word_at words name).text; stands = Variable index s } ∷ vs))) e)) (refused draft)
+      (λ fault e. sym (same draft) ∙ ap (behind_variables so_far) (variables_here draft ∙ ap (then_from (λ (s : ℕ). variables_from state (index + 1) (here words behind) >>= λ (vs : List Bound). gives (record { name = (word_at words name).text; stands = Variable index s } ∷ vs))) e)) (refused draft)
 
 -- a keyword of a trigger is gathered
 pub gathered : (words : List Word) (keys more : List ℕ) (w : Word) (at : ℕ) → w ≡ word_at words at → attributes_at words more ≡ attributes_at words keys ++ attribute_if (is_pattern_key w) (attribute_at words at)
@@ -92,7 +92,7 @@ pub passes_annotation : (words : List Word) (keys more : List ℕ) (i next : ℕ
     → body_of (attributes_at words keys) (here words i) draft ≡ body_of (attributes_at words more) (here words (i + 2)) draft
 passes_annotation words keys more i next p draft annotated at holds behind all =
     ap (λ (t : Meant). body_of (attributes_at words keys) t draft) annotated.sees.is
-    ∙ ap (λ (b : Bool). cond b (attributes_of (word_at words (i + 1)).place (here words (i + 1 + 1)) >> body_of (attributes_at words keys ++ patterns_in (from 1 (here words (i + 1 + 1)))) (here words (i + 1 + 1))) (made (plain annotated.behind)) draft) annotated.head
+    ∙ ap (λ (b : Bool). cond b (attributes_of (word_at words (i + 1)).place (here words (i + 1 + 1)) >> body_of (attributes_at words keys ++ patterns_in (from 1 (here words (i + 1 + 1)))) (here words (i + 1 + 1))) (gives (plain annotated.behind)) draft) annotated.head
     ∙ ap (then_from (λ (_ : Unit {0}). body_of (attributes_at words keys ++ patterns_in (from 1 (here words (i + 1 + 1)))) (here words (i + 1 + 1))))
     (ap (λ (q : Place). attributes_of q (here words (i + 1 + 1)) draft) (sym at) ∙ ap (λ (n : ℕ). attributes_of p (here words n) draft) two ∙ holds)
     ∙ ap (λ (n : ℕ). body_of (attributes_at words keys ++ patterns_in (from 1 (here words n))) (here words n) draft) two
@@ -109,7 +109,7 @@ pub annotation_refused : (words : List Word) (keys : List ℕ) (i : ℕ) (p : Pl
     → (draft : Draft) → Refuses stopped (body_of (attributes_at words keys) (here words i) draft)
 annotation_refused words keys i p stopped annotated at refused draft = refuses_all stopped _ _
     (λ fault e. ap (λ (t : Meant). body_of (attributes_at words keys) t draft) annotated.sees.is
-    ∙ ap (λ (b : Bool). cond b (attributes_of (word_at words (i + 1)).place (here words (i + 1 + 1)) >> body_of (attributes_at words keys ++ patterns_in (from 1 (here words (i + 1 + 1)))) (here words (i + 1 + 1))) (made (plain annotated.behind)) draft) annotated.head
+    ∙ ap (λ (b : Bool). cond b (attributes_of (word_at words (i + 1)).place (here words (i + 1 + 1)) >> body_of (attributes_at words keys ++ patterns_in (from 1 (here words (i + 1 + 1)))) (here words (i + 1 + 1))) (gives (plain annotated.behind)) draft) annotated.head
     ∙ ap (then_from (λ (_ : Unit {0}). body_of (attributes_at words keys ++ patterns_in (from 1 (here words (i + 1 + 1)))) (here words (i + 1 + 1))))
     (ap (λ (q : Place). attributes_of q (here words (i + 1 + 1)) draft) (sym at) ∙ ap (λ (n : ℕ). attributes_of p (here words n) draft) two ∙ e)) (refused draft)
   where

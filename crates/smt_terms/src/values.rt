@@ -1,7 +1,7 @@
 //! The values of trees inside a forall.
 ghost use Rattle.std.specs.Prelude.{◌≡◌, ◌==◌, true, OnOk};
 ghost use Rattle.smt_names.specs.declared.refusal.Refusal.TheVariants.{WrongSort};
-ghost use Rattle.smt_names.specs.Making.{want};
+ghost use Rattle.smt_names.specs.Making.{must_hold};
 ghost use Rattle.smt_names.specs.Value.{sort_of};
 ghost use Rattle.smt_names.specs.Makes.{Makes, Checks};
 ghost use Rattle.smt_terms.specs.Meant.{first_place};
@@ -80,7 +80,7 @@ pub(crate) fn check_truth(
     missing: Place,
     value: &Value,
 ) -> Result<(), Stop>
-    ensures { Checks result (want (sort_of value.now == 0) WrongSort (first_place missing (here tree.now at))) }
+    ensures { Checks result (must_hold (sort_of value.now == 0) WrongSort (first_place missing (here tree.now at))) }
 {
     if is_formula(value) {
         Ok(())

@@ -1,6 +1,6 @@
 use Rattle.std.proofs.Common.{◌∙◌, nat_le, sym, ℕ, length}
 use Rattle.smt_terms.specs.Cursor.{here}
-use Rattle.smt_names.specs.Making.{made, want, ◌>>◌}
+use Rattle.smt_names.specs.Making.{gives, must_hold, ◌>>◌}
 use Rattle.smt_names.specs.declared.refusal.Refusal.TheVariants.{PopTooFar}
 use Rattle.smt_terms.specs.Meant.{first_place}
 use Rattle.smt_commands.specs.Commands.{level_form}
@@ -8,13 +8,13 @@ use Rattle.smt_commands.proofs.Steps.{refused_first, refused_after, made_after, 
 use Rattle.smt_commands.proofs.levels.pop_count_at.Goals as goal
 
 pub returns-in-Err-clause-form : goal.returns-in-Err-clause-form
-returns-in-Err-clause-form c draft = refused_first (λ (n : ℕ). want (nat_le n (length c.args.state.now.levels)) PopTooFar (first_place c.args.head (here c.args.tree.now c.args.i)) >> made n) c.in-Err.stop (level_form c.args.head (here c.args.tree.now c.args.i) draft) (c.in-Err.ensures draft)
+returns-in-Err-clause-form c draft = refused_first (λ (n : ℕ). must_hold (nat_le n (length c.args.state.now.levels)) PopTooFar (first_place c.args.head (here c.args.tree.now c.args.i)) >> gives n) c.in-Err.stop (level_form c.args.head (here c.args.tree.now c.args.i) draft) (c.in-Err.ensures draft)
 
 pub returns-then-are_open-clause-form : goal.returns-then-are_open-clause-form
-returns-then-are_open-clause-form c draft = made_after (λ (n : ℕ). want (nat_le n (length c.args.state.now.levels)) PopTooFar (first_place c.args.head (here c.args.tree.now c.args.i)) >> made n) (level_form c.args.head (here c.args.tree.now c.args.i) draft) c.in-Ok.count draft (c.in-Ok.ensures draft)
-    ∙ made_after (λ (_ : Unit {0}). made c.in-Ok.count) (want (nat_le c.in-Ok.count (length c.args.state.now.levels)) PopTooFar (first_place c.args.head (here c.args.tree.now c.args.i)) draft) tt draft (wanted (nat_le c.in-Ok.count (length c.args.state.now.levels)) PopTooFar (first_place c.args.head (here c.args.tree.now c.args.i)) draft (sym c.are_open.ensures ∙ c.if-are_open.true))
+returns-then-are_open-clause-form c draft = made_after (λ (n : ℕ). must_hold (nat_le n (length c.args.state.now.levels)) PopTooFar (first_place c.args.head (here c.args.tree.now c.args.i)) >> gives n) (level_form c.args.head (here c.args.tree.now c.args.i) draft) c.in-Ok.count draft (c.in-Ok.ensures draft)
+    ∙ made_after (λ (_ : Unit {0}). gives c.in-Ok.count) (must_hold (nat_le c.in-Ok.count (length c.args.state.now.levels)) PopTooFar (first_place c.args.head (here c.args.tree.now c.args.i)) draft) tt draft (wanted (nat_le c.in-Ok.count (length c.args.state.now.levels)) PopTooFar (first_place c.args.head (here c.args.tree.now c.args.i)) draft (sym c.are_open.ensures ∙ c.if-are_open.true))
 
 pub returns-else-are_open-clause-form : goal.returns-else-are_open-clause-form
-returns-else-are_open-clause-form c draft = refused_after (λ (n : ℕ). want (nat_le n (length c.args.state.now.levels)) PopTooFar (first_place c.args.head (here c.args.tree.now c.args.i)) >> made n) c.at.result (level_form c.args.head (here c.args.tree.now c.args.i) draft) c.in-Ok.count draft (c.in-Ok.ensures draft)
-    (refused_first (λ (_ : Unit {0}). made c.in-Ok.count) c.at.result (want (nat_le c.in-Ok.count (length c.args.state.now.levels)) PopTooFar (first_place c.args.head (here c.args.tree.now c.args.i)) draft)
+returns-else-are_open-clause-form c draft = refused_after (λ (n : ℕ). must_hold (nat_le n (length c.args.state.now.levels)) PopTooFar (first_place c.args.head (here c.args.tree.now c.args.i)) >> gives n) c.at.result (level_form c.args.head (here c.args.tree.now c.args.i) draft) c.in-Ok.count draft (c.in-Ok.ensures draft)
+    (refused_first (λ (_ : Unit {0}). gives c.in-Ok.count) c.at.result (must_hold (nat_le c.in-Ok.count (length c.args.state.now.levels)) PopTooFar (first_place c.args.head (here c.args.tree.now c.args.i)) draft)
     (unwanted c.at.result (nat_le c.in-Ok.count (length c.args.state.now.levels)) PopTooFar c.first_place_at-place.result (first_place c.args.head (here c.args.tree.now c.args.i)) draft c.at.ensures c.first_place_at-place.ensures (sym c.are_open.ensures ∙ c.if-are_open.false)))

@@ -1,6 +1,6 @@
 use Rattle.std.proofs.Common.{ℕ, ◌==◌, ap, ◌∙◌}
 use Rattle.smt_names.specs.declared.refusal.Refusal.TheVariants.{NotInProfile}
-use Rattle.smt_names.specs.Making.{Making, want}
+use Rattle.smt_names.specs.Making.{Making, must_hold}
 use Rattle.smt_terms.specs.Meant.{Meant, first_place}
 use Rattle.smt_terms.specs.Cursor.{here}
 use Rattle.smt_text.specs.declared.token.Place.{Place}
@@ -9,7 +9,7 @@ use Rattle.smt_commands.proofs.Steps.{refused_first, refused_after, made_after, 
 use Rattle.smt_commands.proofs.parts.check_no_arguments.Goals as goal
 
 abbrev rest : Place → Meant → ℕ → Making (Unit {0})
-rest head parts n = want (n == 0) NotInProfile (first_place head parts)
+rest head parts n = must_hold (n == 0) NotInProfile (first_place head parts)
 
 pub returns-in-Err : goal.returns-in-Err
 returns-in-Err c draft = refused_first (rest c.args.missing (here c.args.tree.now c.args.i)) c.in-Err.stop (numeral_first c.args.missing (here c.args.tree.now c.args.i) draft) (c.in-Err.ensures draft)
