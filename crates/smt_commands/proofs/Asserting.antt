@@ -11,7 +11,7 @@ use Rattle.smt_names.specs.declared.bound.Bound.{Bound}
 use Rattle.smt_names.specs.declared.refusal.Refusal.TheVariants.{WrongSort}
 use Rattle.smt_names.specs.declared.syntax_fault.SyntaxFault.{SyntaxFault}
 use Rattle.smt_names.specs.Value.{sort_of, self}
-use Rattle.smt_names.specs.Making.{made, then_from, want, ◌>>◌}
+use Rattle.smt_names.specs.Making.{gives, then_from, must_hold, ◌>>◌}
 use Rattle.smt_names.specs.Names.{State, Scope}
 use Rattle.smt_terms.specs.declared.inside.Inside.{Inside}
 use Rattle.smt_terms.specs.Machine.{scope_of}
@@ -41,11 +41,11 @@ pub value_of_sorted : (head : Place) (scope : Scope) (sort : ℕ) (trees : Readi
     → (value head scope trees old ≡ Ok (v, new)) × (sort_of v ≡ sort)
 value_of_sorted head scope sort trees old new v is = by (value head scope trees old) is
   where
-    wanted_so : (test : Bool) (u : Value) (later : Draft) → then_from (λ (_ : Unit {0}). made u) (want test WrongSort (first_place head trees) later) ≡ ready v new → (test ≡ true) × (ready u later ≡ ready v new)
+    wanted_so : (test : Bool) (u : Value) (later : Draft) → then_from (λ (_ : Unit {0}). gives u) (must_hold test WrongSort (first_place head trees) later) ≡ ready v new → (test ≡ true) × (ready u later ≡ ready v new)
     wanted_so true u later same = (refl, same)
     wanted_so false u later same = absurd (cc)
 
-    by : (r : Result (Value × Draft) SyntaxFault) → then_from (λ (u : Value). want (sort_of u == sort) WrongSort (first_place head trees) >> made u) r ≡ ready v new → (r ≡ ready v new) × (sort_of v ≡ sort)
+    by : (r : Result (Value × Draft) SyntaxFault) → then_from (λ (u : Value). must_hold (sort_of u == sort) WrongSort (first_place head trees) >> gives u) r ≡ ready v new → (r ≡ ready v new) × (sort_of v ≡ sort)
     by (Ok r) same =
         let both = wanted_so (sort_of r.0 == sort) r.0 r.1 same in
         (both.1, sym (ap made_sort both.1) ∙ same_number (sort_of r.0) sort both.0)

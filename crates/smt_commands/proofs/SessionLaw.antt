@@ -13,7 +13,7 @@ use Rattle.smt_names.specs.declared.signature.Signature.{Signature}
 use Rattle.smt_names.specs.declared.syntax_fault.SyntaxFault.{SyntaxFault}
 use Rattle.smt_names.specs.declared.refusal.Refusal.TheVariants as refusal
 use Rattle.smt_names.specs.Value.{sort_of, self}
-use Rattle.smt_names.specs.Making.{Making, made, then_from, ◌>>◌, want, bad_form}
+use Rattle.smt_names.specs.Making.{Making, gives, then_from, ◌>>◌, must_hold, bad_form}
 use Rattle.smt_names.specs.Names.{State, Defined, is_symbol, with_sort, with_function, declared_as, at_start, cleared, level_of, pushed, popped}
 use Rattle.smt_terms.specs.Reading.{Reading, from, first_place, at_most}
 use Rattle.smt_terms.specs.Terms.{value, reading}
@@ -121,11 +121,11 @@ data Sorted (sort : ℕ) (made_so : Result (Value × Draft) SyntaxFault) : Resul
   sorted : {v : Value} {later : Draft} → made_so ≡ Ok (v, later) → sort_of v ≡ sort → Sorted sort made_so (Ok (v, later))
   unsorted : {fault : SyntaxFault} → Sorted sort made_so (Err fault)
 
-sorted_by : (place : Place) (sort : ℕ) (r : Result (Value × Draft) SyntaxFault) → Sorted sort r (then_from (λ (v : Value). want (sort_of v == sort) refusal.WrongSort place >> made v) r)
+sorted_by : (place : Place) (sort : ℕ) (r : Result (Value × Draft) SyntaxFault) → Sorted sort r (then_from (λ (v : Value). must_hold (sort_of v == sort) refusal.WrongSort place >> gives v) r)
 sorted_by place sort (Err fault) = unsorted
 sorted_by place sort (Ok done) = by (sort_of done.0 == sort) refl
   where
-    by : (b : Bool) → (sort_of done.0 == sort) ≡ b → Sorted sort (Ok done) (then_from (λ (_ : Unit {0}). made done.0) (want b refusal.WrongSort place done.1))
+    by : (b : Bool) → (sort_of done.0 == sort) ≡ b → Sorted sort (Ok done) (then_from (λ (_ : Unit {0}). gives done.0) (must_hold b refusal.WrongSort place done.1))
     by true same = sorted refl (eq_from (sort_of done.0) sort same)
     by false same = unsorted
 

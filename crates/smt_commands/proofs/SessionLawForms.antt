@@ -12,7 +12,7 @@ use Rattle.smt_names.specs.declared.signature.Signature.{Signature}
 use Rattle.smt_names.specs.declared.syntax_fault.SyntaxFault.{SyntaxFault}
 use Rattle.smt_names.specs.declared.refusal.Refusal.{Refusal}
 use Rattle.smt_names.specs.declared.refusal.Refusal.TheVariants as refusal
-use Rattle.smt_names.specs.Making.{Making, made, then_from, ◌>>=◌, want, want_named, bad_form}
+use Rattle.smt_names.specs.Making.{Making, gives, then_from, ◌>>=◌, must_hold, must_hold_named, bad_form}
 use Rattle.smt_names.specs.Names.{State, is_symbol, is_known, named, is_solver_name, is_reserved, known_sort, sort_number, sort_at_place, lawful_name, new_name, new_function_name}
 use Rattle.smt_terms.specs.Reading.{Meaning, Reading, End, Token, Group, from, first_place, no_more, at_least, exactly, token_first, Listed, list_first, sort_first, other_sort, head_place, binding_name, bindings_after, no_binding}
 use Rattle.smt_terms.specs.Terms.{variables_from}
@@ -60,11 +60,11 @@ sort_stands state name sort e = by (bytes_eq name (codes "Bool")) (position_from
     by false (Some n) is e = omega (arith, same_Some (n + 1) sort e, place_within (bytes_eq name) state.sorts 0 n is)
 
 module _ (draft : Draft) where
-  checks_want : (test : Bool) (refusal : Refusal) (place : Place) → Checked (λ _. test ≡ true) draft (want test refusal place draft)
+  checks_want : (test : Bool) (refusal : Refusal) (place : Place) → Checked (λ _. test ≡ true) draft (must_hold test refusal place draft)
   checks_want true refusal place = checked refl
   checks_want false refusal place = stopped
 
-  checks_want_named : (test : Bool) (refusal : Refusal) (place : Place) (name : List ℕ) → Checked Anything draft (want_named test refusal place name draft)
+  checks_want_named : (test : Bool) (refusal : Refusal) (place : Place) (name : List ℕ) → Checked Anything draft (must_hold_named test refusal place name draft)
   checks_want_named true refusal place name = checked (tt {0})
   checks_want_named false refusal place name = stopped
 
@@ -164,8 +164,8 @@ module _ (draft : Draft) (state : State) where
       checked_then draft _ (checks_other_sort draft state missing (Token word trees)) λ sort some.
       checked_then draft _ (checks_other_sorts missing trees) λ sorts are. checked (others_token (length state.sorts) word trees sort sorts some are)
   checks_other_sorts missing (Group paren meaning inner trees) =
-      checked_then draft (λ (sort : ℕ). other_sorts state missing trees >>= λ (sorts : List ℕ). made (sort ∷ sorts)) (checks_other_sort draft state missing (Group paren meaning inner trees)) λ sort some.
-      checked_then draft (λ (sorts : List ℕ). made (sort ∷ sorts)) (checks_other_sorts missing trees) λ sorts are. checked (others_list (length state.sorts) paren meaning inner trees sort sorts some are)
+      checked_then draft (λ (sort : ℕ). other_sorts state missing trees >>= λ (sorts : List ℕ). gives (sort ∷ sorts)) (checks_other_sort draft state missing (Group paren meaning inner trees)) λ sort some.
+      checked_then draft (λ (sorts : List ℕ). gives (sort ∷ sorts)) (checks_other_sorts missing trees) λ sorts are. checked (others_list (length state.sorts) paren meaning inner trees sort sorts some are)
 
   checks_argument_sorts : (listed : Listed) → Checked (AreFew (length state.sorts)) draft (argument_sorts state listed draft)
   checks_argument_sorts listed =

@@ -10,7 +10,7 @@ use Rattle.smt_names.specs.declared.stop.Stop.TheVariants as stop
 use Rattle.smt_names.specs.declared.syntax_fault.SyntaxFault.{SyntaxFault}
 use Rattle.formula_draft.specs.Draft.{empty_draft}
 use Rattle.smt_names.specs.declared.refusal.Refusal.{Refusal}
-use Rattle.smt_names.specs.Making.{Making, made, then_from, ◌>>=◌, fault_of, want}
+use Rattle.smt_names.specs.Making.{Making, gives, then_from, ◌>>=◌, fault_of, must_hold}
 use Rattle.smt_names.specs.Makes.{Checks, Makes, Refuses, StopsWith}
 use Rattle.smt_names.specs.Names.{State, word_of}
 use Rattle.smt_commands.specs.declared.command.Command.{Command}
@@ -52,21 +52,21 @@ module _ {A B : Type 0} (rest : A → Making B) where
   checks_after (Err stopped) first value found is checks = λ draft. refused_after stopped (first draft) value draft (is draft) (checks draft)
 
 -- a check, and then what was found before it
-pub checked_as : {A : Type 0} (result : Result (Unit {0}) Stop) (first : Making (Unit {0})) (found : A) → Checks result first → ChecksAs result found (first >>= λ (_ : Unit {0}). made found)
-checked_as (Ok done) first found checks = λ draft. ap (then_from (λ (_ : Unit {0}). made found)) (checks draft)
-checked_as (Err stopped) first found checks = λ draft. refused_first (λ (_ : Unit {0}). made found) stopped (first draft) (checks draft)
+pub checked_as : {A : Type 0} (result : Result (Unit {0}) Stop) (first : Making (Unit {0})) (found : A) → Checks result first → ChecksAs result found (first >>= λ (_ : Unit {0}). gives found)
+checked_as (Ok done) first found checks = λ draft. ap (then_from (λ (_ : Unit {0}). gives found)) (checks draft)
+checked_as (Err stopped) first found checks = λ draft. refused_first (λ (_ : Unit {0}). gives found) stopped (first draft) (checks draft)
 
 -- the same answer
 pub same_answer : (a b : Command) (s t : State) → a ≡ b → s ≡ t → answered b t ≡ answered a s
 same_answer a b s t command state = rw (command, state) refl
 
 -- a test that fails
-pub unwanted : (stopped : Stop) (test : Bool) (refusal : Refusal) (a b : Place) (draft : Draft) → StopsWith stopped (fault_of refusal a []) → a ≡ b → test ≡ false → Refuses stopped (want test refusal b draft)
+pub unwanted : (stopped : Stop) (test : Bool) (refusal : Refusal) (a b : Place) (draft : Draft) → StopsWith stopped (fault_of refusal a []) → a ≡ b → test ≡ false → Refuses stopped (must_hold test refusal b draft)
 unwanted stop.Memory test refusal a b draft is same fails = tt {0}
 unwanted (stop.Refused fault) test refusal a b draft is same fails = rw (fails, is, same) refl
 
 -- a test that holds
-pub wanted : (test : Bool) (refusal : Refusal) (place : Place) (draft : Draft) → test ≡ true → want test refusal place draft ≡ Ok (tt {0}, draft)
+pub wanted : (test : Bool) (refusal : Refusal) (place : Place) (draft : Draft) → test ≡ true → must_hold test refusal place draft ≡ Ok (tt {0}, draft)
 wanted test refusal place draft holds = rw holds refl
 
 pub not_zero : (n : ℕ) → (n ≡ 0 → ⊥) → (n == 0) ≡ false

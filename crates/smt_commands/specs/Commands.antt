@@ -14,7 +14,7 @@ use Rattle.smt_names.specs.declared.syntax_fault.SyntaxFault.{SyntaxFault}
 use Rattle.smt_names.specs.declared.refusal.Refusal.TheVariants as refusal
 use Rattle.smt_names.specs.declared.signature.Signature.{Signature}
 use Rattle.smt_names.specs.Value.{sort_of, self}
-use Rattle.smt_names.specs.Making.{Making, made, ◌>>=◌, ◌>>◌, want, bad_form, not_in_profile}
+use Rattle.smt_names.specs.Making.{Making, gives, ◌>>=◌, ◌>>◌, must_hold, bad_form, not_in_profile}
 use Rattle.smt_names.specs.Names.{State, Scope, Declared, with_sort, with_function, is_symbol}
 use Rattle.smt_names.specs.Names.{is_keyword, is_numeral, is_wide, number_of, new_function_name, new_sort_name}
 use Rattle.smt_names.specs.Names.{at_start, cleared, pushed, popped}
@@ -38,7 +38,7 @@ pub record Answer : Type 0 where
 
 -- the command changes nothing
 abbrev pub answer : State → Command → Making Answer
-answer state command = made (record { command = command; state = state })
+answer state command = gives (record { command = command; state = state })
 
 abbrev pub silent : State → Making Answer
 silent state = answer state Silent
@@ -53,21 +53,21 @@ plain_value (Group paren meaning inner trees) = made tt
 abbrev pub keyword_first : Place → Reading → Making Word
 keyword_first head parts = do
   key ← token_first head parts
-  want (is_keyword key.kind) refusal.BadForm key.place
-  made key
+  must_hold (is_keyword key.kind) refusal.BadForm key.place
+  gives key
 
 abbrev pub symbol_first : Place → Reading → Making Word
 symbol_first head parts = do
   word ← token_first head parts
-  want (is_symbol word.kind) refusal.BadForm word.place
-  made word
+  must_hold (is_symbol word.kind) refusal.BadForm word.place
+  gives word
 
 -- a numeral of at most 128 bits
 abbrev pub numeral_first : Place → Reading → Making ℕ
 numeral_first head parts = do
   word ← token_first head parts
-  want (is_numeral word.kind && not (is_wide word)) refusal.BadForm word.place
-  made (number_of word)
+  must_hold (is_numeral word.kind && not (is_wide word)) refusal.BadForm word.place
+  gives (number_of word)
 
 -- Commands.
 -- one symbol
@@ -85,8 +85,8 @@ set_logic state head parts = do
 -- true or false
 abbrev pub truth_named : Word → Making Bool
 truth_named v =
-    if bytes_eq v.text (codes "true") then made true else
-    if bytes_eq v.text (codes "false") then made false else bad_form v.place
+    if bytes_eq v.text (codes "true") then gives true else
+    if bytes_eq v.text (codes "false") then gives false else bad_form v.place
 
 abbrev pub truth_first : Place → Reading → Making Bool
 truth_first head parts = do
@@ -142,20 +142,20 @@ set_info state head parts = do
 abbrev pub no_arguments : Place → Reading → Making (Unit {0})
 no_arguments head parts = do
   n ← numeral_first head parts
-  want (n == 0) refusal.NotInProfile (first_place head parts)
+  must_hold (n == 0) refusal.NotInProfile (first_place head parts)
 
 -- the first part, which may be the name of a sort
 abbrev pub new_sort : State → Place → Reading → Making Word
 new_sort state head parts = do
   name ← token_first head parts
   new_sort_name state name
-  made name
+  gives name
 
 abbrev pub plain_sort : State → Place → Reading → Making Word
 plain_sort state head parts = do
   name ← new_sort state head parts
   no_arguments head (from 1 parts)
-  made name
+  gives name
 
 -- a new name and 0
 abbrev pub sort_form : State → Place → Reading → Making Word
@@ -175,11 +175,11 @@ other_sorts state paren End = made []
 other_sorts state paren (Token word trees) = do
   sort ← other_sort state paren (Token word trees)
   sorts ← other_sorts state paren trees
-  made (sort ∷ sorts)
+  gives (sort ∷ sorts)
 other_sorts state paren (Group p meaning inner trees) = do
   sort ← other_sort state paren (Group p meaning inner trees)
   sorts ← other_sorts state paren trees
-  made (sort ∷ sorts)
+  gives (sort ∷ sorts)
 
 abbrev pub signature : List ℕ → ℕ → Signature
 signature arguments sort = record { arguments = arguments; sort = sort }
@@ -189,7 +189,7 @@ abbrev pub new_function : State → Place → Reading → Making Word
 new_function state head parts = do
   name ← token_first head parts
   new_function_name state name
-  made name
+  gives name
 
 -- so many parts, of which the first may be the name of a function
 abbrev pub named_form : ℕ → State → Place → Reading → Making Word
@@ -214,7 +214,7 @@ abbrev pub signature_first : State → Place → Reading → Making Signature
 signature_first state head parts = do
   arguments ← arguments_first state head parts
   sort ← sort_first state head (from 1 parts)
-  made (signature arguments sort)
+  gives (signature arguments sort)
 
 -- (declare-fun s (S1 .. Sn) S)
 abbrev pub declare_fun : State → Place → Reading → Making Answer
@@ -227,7 +227,7 @@ declare_fun state head parts = do
 abbrev pub constant_first : State → Place → Reading → Making Signature
 constant_first state head parts = do
   sort ← sort_first state head parts
-  made (signature [] sort)
+  gives (signature [] sort)
 
 -- (declare-const s S)
 abbrev pub declare_const : State → Place → Reading → Making Answer
@@ -270,8 +270,8 @@ parameters_first state head parts = do
 abbrev pub sorted_value : Place → Scope → (sort : ℕ) → Reading → Making Value
 sorted_value head scope sort parts = do
   v ← value head scope parts
-  want (sort_of v == sort) refusal.WrongSort (first_place head parts)
-  made v
+  must_hold (sort_of v == sort) refusal.WrongSort (first_place head parts)
+  gives v
 
 -- what is defined of these parameters
 abbrev pub defined_by : State → Place → (name : List ℕ) → List Bound → (sorted given : Reading) → Making Answer
@@ -317,8 +317,8 @@ level_form head parts = do
 abbrev pub push_form : State → Place → Reading → Making ℕ
 push_form state head parts = do
   n ← level_form head parts
-  want (nat_le (length state.levels + n) state.limits.levels) refusal.LevelsFull (first_place head parts)
-  made n
+  must_hold (nat_le (length state.levels + n) state.limits.levels) refusal.LevelsFull (first_place head parts)
+  gives n
 
 -- (push n)
 abbrev pub push_levels : State → Place → Reading → Making Answer
@@ -330,8 +330,8 @@ push_levels state head parts = do
 abbrev pub pop_form : State → Place → Reading → Making ℕ
 pop_form state head parts = do
   n ← level_form head parts
-  want (nat_le n (length state.levels)) refusal.PopTooFar (first_place head parts)
-  made n
+  must_hold (nat_le n (length state.levels)) refusal.PopTooFar (first_place head parts)
+  gives n
 
 -- (pop n)
 abbrev pub pop_levels : State → Place → Reading → Making Answer

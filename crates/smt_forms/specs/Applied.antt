@@ -8,7 +8,7 @@ use Rattle.smt_names.specs.declared.connective.Connective.{Connective}
 use Rattle.smt_names.specs.declared.connective.Connective.TheVariants as core
 use Rattle.smt_names.specs.declared.refusal.Refusal.TheVariants.{WrongArity, WrongSort, NotInProfile}
 use Rattle.smt_names.specs.Value.{sort_of, has_complement}
-use Rattle.smt_names.specs.Making.{Making, made, ◌>>=◌, ◌>>◌, want, want_named, bad_form}
+use Rattle.smt_names.specs.Making.{Making, gives, ◌>>=◌, ◌>>◌, must_hold, must_hold_named, bad_form}
 use Rattle.smt_names.specs.Names.{Named, Core, Function, Definition, Unknown}
 use Rattle.smt_forms.specs.Nodes.{connected, application}
 use Rattle.smt_forms.specs.Moved.{unfolded}
@@ -34,7 +34,7 @@ has_number Unknown n = false
 
 -- a wrong number of arguments is refused at the head, with its name
 abbrev pub right_number : Place → List ℕ → Named → ℕ → Making (Unit {0})
-right_number head called name n = want_named (has_number name n) WrongArity head called
+right_number head called name n = must_hold_named (has_number name n) WrongArity head called
 
 -- Sorts.
 abbrev pub values_of : List Arg → List Value
@@ -59,16 +59,16 @@ wanted Unknown args = []
 
 -- the first argument of another sort is refused
 abbrev pub right_sorts : List ℕ → List Arg → Making (Unit {0})
-right_sorts [] args = made tt
-right_sorts (sort ∷ sorts) [] = made tt
+right_sorts [] args = gives tt
+right_sorts (sort ∷ sorts) [] = gives tt
 right_sorts (sort ∷ sorts) (arg ∷ args) = do
-  want (sort_of arg.value == sort) WrongSort arg.place
+  must_hold (sort_of arg.value == sort) WrongSort arg.place
   right_sorts sorts args
 
 -- branches that are no formulas are refused at the head
 abbrev pub right_branches : Place → Named → List Arg → Making (Unit {0})
-right_branches head (Core core.Ite) args = want (sort_at 1 args == 0) NotInProfile head
-right_branches head name args = made tt
+right_branches head (Core core.Ite) args = must_hold (sort_at 1 args == 0) NotInProfile head
+right_branches head name args = gives tt
 
 -- Complements.
 -- whether the form needs the complement of the argument at place k of n, where the first has that sort
@@ -86,14 +86,14 @@ has_needed c k n sort part = not (needs c k n sort) || has_complement part
 
 -- the first argument that lacks a complement which the form needs is refused
 abbrev pub right_complements : Connective → (k n sort : ℕ) → List Arg → Making (Unit {0})
-right_complements c k n sort [] = made tt
+right_complements c k n sort [] = gives tt
 right_complements c k n sort (arg ∷ args) = do
-  want (has_needed c k n sort arg.value) NotInProfile arg.place
+  must_hold (has_needed c k n sort arg.value) NotInProfile arg.place
   right_complements c (k + 1) n sort args
 
 abbrev pub complements_for : Named → List Arg → Making (Unit {0})
 complements_for (Core c) args = right_complements c 0 (length args) (sort_at 0 args) args
-complements_for name args = made tt
+complements_for name args = gives tt
 
 -- The checks of an application, in their order.
 abbrev pub checked : (head : Place) → List ℕ → Named → List Arg → Making (Unit {0})

@@ -8,7 +8,7 @@ use Rattle.formula_draft.specs.declared.draft_node.DraftNode.TheVariants.{Equal,
 use Rattle.smt_names.specs.declared.value.Value.{Value}
 use Rattle.smt_names.specs.declared.value.Value.TheVariants.{Term, Formula}
 use Rattle.smt_names.specs.Value.{row_of}
-use Rattle.smt_names.specs.Making.{Making, made, ◌>>=◌, row, node}
+use Rattle.smt_names.specs.Making.{Making, gives, ◌>>=◌, row, node}
 use Rattle.smt_names.specs.Names.{Defined}
 
 -- the numbers at these places
@@ -17,11 +17,11 @@ moved_numbers moved numbers = map (λ n. get_or moved n 0) numbers
 
 -- a row, by the rows of the arguments and those that the rows before it became
 abbrev pub moved_row : List ℕ → List ℕ → Place → DraftRow → Making ℕ
-moved_row args rows at (Var i) = made (get_or args i 0)
+moved_row args rows at (Var i) = gives (get_or args i 0)
 moved_row args rows at (App symbol xs) = row at (App symbol (moved_numbers rows xs))
 
 abbrev pub moved_rows : List ℕ → List ℕ → Place → List DraftRow → Making (List ℕ)
-moved_rows args rows at [] = made rows
+moved_rows args rows at [] = gives rows
 moved_rows args rows at (next ∷ others) = do
   r ← moved_row args rows at next
   moved_rows args (rows ++ r ∷ []) at others
@@ -35,7 +35,7 @@ moved_node rows nodes (Or parts) = Or (moved_numbers nodes parts)
 moved_node rows nodes (Forall i) = Forall i
 
 abbrev pub moved_nodes : List ℕ → List ℕ → Place → List DraftNode → Making (List ℕ)
-moved_nodes rows nodes at [] = made nodes
+moved_nodes rows nodes at [] = gives nodes
 moved_nodes rows nodes at (next ∷ others) = do
   n ← node at (moved_node rows nodes next)
   moved_nodes rows (nodes ++ n ∷ []) at others
@@ -48,4 +48,4 @@ abbrev pub unfolded : Place → Defined → List Value → Making Value
 unfolded at d args = do
   rows ← moved_rows (map row_of args) [] at d.rows
   nodes ← moved_nodes rows [] at d.nodes
-  made (moved_value rows nodes d.value)
+  gives (moved_value rows nodes d.value)

@@ -11,7 +11,7 @@ use Rattle.smt_names.specs.declared.connective.Connective.{Connective}
 use Rattle.smt_names.specs.declared.connective.Connective.TheVariants as core
 use Rattle.smt_forms.specs.declared.crossed.Crossed.{Crossed}
 use Rattle.smt_names.specs.Value.{row_of, self, other, complement, has_complement, swapped}
-use Rattle.smt_names.specs.Making.{Making, made, ◌>>=◌, bad_form, row, node, node_if}
+use Rattle.smt_names.specs.Making.{Making, gives, ◌>>=◌, bad_form, row, node, node_if}
 
 abbrev pub selves : List Value → List ℕ
 selves parts = map self parts
@@ -29,14 +29,14 @@ abbrev pub both : Place → DraftNode → Option DraftNode → Making Value
 both at itself against = do
   n ← node at itself
   c ← node_if at against
-  made (Formula n c)
+  gives (Formula n c)
 
 -- no parts, of which each is true; against it that one of them is
 abbrev pub true_form : Place → Making Value
 true_form at = both at (And []) (Some (Or []))
 
 abbrev pub not_form : Place → List Value → Making Value
-not_form at (a ∷ []) = made (swapped a)
+not_form at (a ∷ []) = gives (swapped a)
 not_form at parts = bad_form at
 
 abbrev pub and_form : Place → List Value → Making Value
@@ -73,7 +73,7 @@ crossed at a b = do
   n ← or_of at (other a) (other b)
   p ← or_of at (self a) (other b)
   q ← or_of at (other a) (self b)
-  made (record { m = m; n = n; p = p; q = q })
+  gives (record { m = m; n = n; p = p; q = q })
 
 -- one of the two, and not both
 abbrev pub xor_of_two : Place → Value → Value → Making Value
@@ -89,7 +89,7 @@ same_truth at a b = do
 
 -- from the left, two at a time
 abbrev pub xor_from : Place → Value → List Value → Making Value
-xor_from at a [] = made a
+xor_from at a [] = gives a
 xor_from at a (b ∷ parts) = do
   first ← xor_of_two at a b
   xor_from at first parts
@@ -104,11 +104,11 @@ equal_of_two at (Term s sort) b = both at (Equal true s (row_of b)) (Some (Equal
 
 -- each part with the next
 abbrev pub neighbours : Place → Value → List Value → Making (List Value)
-neighbours at a [] = made []
+neighbours at a [] = gives []
 neighbours at a (b ∷ parts) = do
   first ← equal_of_two at a b
   others ← neighbours at b parts
-  made (first ∷ others)
+  gives (first ∷ others)
 
 -- each part equals the next
 abbrev pub all_equal : Place → Value → List Value → Making Value
@@ -125,23 +125,23 @@ equal_form at (a ∷ b ∷ c ∷ parts) = all_equal at a (b ∷ c ∷ parts)
 abbrev pub distinct_of_two : Place → Value → Value → Making Value
 distinct_of_two at a b = do
   equation ← equal_of_two at a b
-  made (swapped equation)
+  gives (swapped equation)
 
 -- a part with each that follows
 abbrev pub distinct_from : Place → Value → List Value → Making (List Value)
-distinct_from at a [] = made []
+distinct_from at a [] = gives []
 distinct_from at a (b ∷ parts) = do
   first ← distinct_of_two at a b
   others ← distinct_from at a parts
-  made (first ∷ others)
+  gives (first ∷ others)
 
 -- each part with each that follows
 abbrev pub distinct_pairs : Place → List Value → Making (List Value)
-distinct_pairs at [] = made []
+distinct_pairs at [] = gives []
 distinct_pairs at (a ∷ parts) = do
   first ← distinct_from at a parts
   others ← distinct_pairs at parts
-  made (first ++ others)
+  gives (first ++ others)
 
 -- three formulas or more are never all different
 abbrev pub never : Place → Option (List ℕ) → Making Value
@@ -169,8 +169,8 @@ abbrev pub ite_complement : Place → Value → Option (List ℕ) → Making (Op
 ite_complement at c (Some (a ∷ b ∷ [])) = do
   first ← or_of at (other c) a
   second ← or_of at (self c) b
-  made (Some (and_of first second))
-ite_complement at c against = made None
+  gives (Some (and_of first second))
+ite_complement at c against = gives None
 
 abbrev pub ite_of_three : Place → Value → Value → Value → Making Value
 ite_of_three at c a b = do
@@ -188,7 +188,7 @@ unfoldable pub connected : Place → Connective → List Value → Making Value
 connected at core.True parts = true_form at
 connected at core.False parts = do
   t ← true_form at
-  made (swapped t)
+  gives (swapped t)
 connected at core.Not parts = not_form at parts
 connected at core.And parts = and_form at parts
 connected at core.Or parts = or_form at parts
@@ -202,4 +202,4 @@ connected at core.Ite parts = ite_form at parts
 abbrev pub application : Place → ℕ → ℕ → List Value → Making Value
 application at symbol sort parts = do
   r ← row at (App symbol (map row_of parts))
-  if sort == 0 then both at (Atom true r) (Some (Atom false r)) else made (Term r sort)
+  if sort == 0 then both at (Atom true r) (Some (Atom false r)) else gives (Term r sort)

@@ -11,7 +11,7 @@ use Rattle.smt_names.specs.declared.connective.Connective.{Connective}
 use Rattle.smt_names.specs.declared.connective.Connective.TheVariants as core
 use Rattle.smt_names.specs.declared.refusal.Refusal.{Refusal}
 use Rattle.smt_names.specs.Value.{sort_of, row_of, has_complement, swapped}
-use Rattle.smt_names.specs.Making.{made, want_named}
+use Rattle.smt_names.specs.Making.{gives, must_hold_named}
 use Rattle.smt_names.specs.Names.{Declared, Defined, Named, Core, Function, Definition, Unknown}
 use Rattle.smt_forms.specs.Nodes.{both, connected, application}
 use Rattle.smt_forms.specs.Applied.{has_number, values_of, sort_at, wanted, right_sorts, right_branches, needs, has_needed, right_complements, complements_for, checked, entered, applied}
@@ -36,7 +36,7 @@ lt_true m n h = grind arith
 pub le_from : (m n : ℕ) → nat_le m n ≡ true → m ≤ n
 le_from m n h = grind arith
 
-pub good_want_named : (s : Setting) (draft : Draft) (test : Bool) (refusal : Refusal) (place : Place) (name : List ℕ) → Sound s draft → Good s draft (λ _ _. test ≡ true) (want_named test refusal place name draft)
+pub good_want_named : (s : Setting) (draft : Draft) (test : Bool) (refusal : Refusal) (place : Place) (name : List ℕ) → Sound s draft → Good s draft (λ _ _. test ≡ true) (must_hold_named test refusal place name draft)
 good_want_named s draft true refusal place name sound = makes sound (extends_itself draft) refl
 good_want_named s draft false refusal place name sound = refuses
 
@@ -210,7 +210,7 @@ module _ (s : Setting) where
       → Good s draft (λ d v. FitsIn s d v) (application at (place + 2) f.sort parts draft)
   good_applied_function at draft sound place f parts is function sorted = good_then s draft _ (good_application s at draft sound place f (map row_of parts) is function sorted) λ r d keeps extends has. by r d keeps has (f.sort == 0) refl
     where
-      by : (r : ℕ) (d : Draft) → Sound s d → Sort s d r f.sort → (b : Bool) → (f.sort == 0) ≡ b → Good s d (λ d v. FitsIn s d v) ((if b then both at (Atom true r) (Some (Atom false r)) else made (Term r f.sort)) d)
+      by : (r : ℕ) (d : Draft) → Sound s d → Sort s d r f.sort → (b : Bool) → (f.sort == 0) ≡ b → Good s d (λ d v. FitsIn s d v) ((if b then both at (Atom true r) (Some (Atom false r)) else gives (Term r f.sort)) d)
       by r d keeps has true bool = let atom = subst (λ k. Sort s d r k) (eq_from f.sort 0 bool) has in good_as s d (λ new v extends twofold. twofold.fits) (good_both s at d keeps (Atom true r) (Atom false r) atom atom)
       by r d keeps has false other = good_made s d (Term r f.sort) keeps (has, some_from f.sort other)
 

@@ -6,7 +6,7 @@ use Rattle.smt_text.specs.declared.token.Place.{Place}
 use Rattle.formula_draft.specs.Draft.{Draft}
 use Rattle.smt_names.specs.declared.refusal.Refusal.{Refusal}
 use Rattle.smt_names.specs.declared.refusal.Refusal.TheVariants as refusal
-use Rattle.smt_names.specs.Making.{Making, ◌>>◌, bad_form, want}
+use Rattle.smt_names.specs.Making.{Making, ◌>>◌, bad_form, must_hold}
 use Rattle.smt_names.specs.Names.{State, is_symbol, is_keyword, is_reserved, is_wide, known_sort, sort_number, sort_of_token}
 use Rattle.smt_terms.specs.Reading.{Meaning, Reading, End, Token, Group, from, first_place, no_more, at_least, exactly, token_first, Listed, list_first, sort_first, other_sort, new_binding, head_place, binding_name, bindings_after, some_bindings, attributes_after, attributes_of}
 use Rattle.smt_laws.proofs.Making.{Setting, Sound, Good, refuses, good_then, good_made, good_want, good_as}
@@ -31,7 +31,7 @@ module _ (s : Setting) where
   abbrev pub Passed : {A : Type 0} → Draft → Making A → Type 0
   Passed {A} draft making = Good s draft Anything (making draft)
 
-  pub passes_want : (draft : Draft) (test : Bool) (refusal : Refusal) (place : Place) → Sound s draft → Passed draft (want test refusal place)
+  pub passes_want : (draft : Draft) (test : Bool) (refusal : Refusal) (place : Place) → Sound s draft → Passed draft (must_hold test refusal place)
   passes_want draft test refusal place sound = good_as s draft (λ _ _ _ _. tt {0}) (good_want s draft test refusal place sound)
 
   pub passes_no_more : (draft : Draft) (refusal : Refusal) (trees : Reading) → Sound s draft → Passed draft (no_more refusal trees)
@@ -87,7 +87,7 @@ module _ (s : Setting) where
   passes_attributes draft valued (Token word trees) sound = by (passes_attributes draft true trees sound) (λ d keeps. passes_attributes d false trees keeps) (is_keyword word.kind)
     where
       by : Passed draft (attributes_after true trees) → ((d : Draft) → Sound s d → Passed d (attributes_after false trees)) → (b : Bool)
-          → Good s draft Anything (cond b (attributes_after true trees) (want (valued && not (is_wide word)) refusal.BadForm word.place >> attributes_after false trees) draft)
+          → Good s draft Anything (cond b (attributes_after true trees) (must_hold (valued && not (is_wide word)) refusal.BadForm word.place >> attributes_after false trees) draft)
       by key other true = key
       by key other false = good_then s draft _ (passes_want draft (valued && not (is_wide word)) refusal.BadForm word.place sound) λ _ d1 k1 e1 _. other d1 k1
   passes_attributes draft valued (Group paren meaning inner trees) sound =

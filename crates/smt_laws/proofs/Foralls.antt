@@ -22,7 +22,7 @@ use Rattle.smt_names.specs.declared.syntax_fault.SyntaxFault.{SyntaxFault}
 use Rattle.smt_names.specs.declared.refusal.Refusal.{Refusal}
 use Rattle.smt_names.specs.declared.refusal.Refusal.TheVariants as refusal
 use Rattle.smt_names.specs.Value.{sort_of, self, has_complement}
-use Rattle.smt_names.specs.Making.{Making, made, ◌>>◌, node, put_forall}
+use Rattle.smt_names.specs.Making.{Making, gives, ◌>>◌, node, put_forall}
 use Rattle.smt_names.specs.Names.{State, Scope}
 use Rattle.smt_patterns.specs.Patterns.{size_of, trigger_of, occurs}
 use Rattle.smt_patterns.specs.Roots.{positive_row, atom_row, no_variable, root_of, small_root}
@@ -131,7 +131,7 @@ good_body s draft so_far (Group paren meaning (Token head parts) trees) sound so
     by (λ d keeps. good_body s d (so_far ++ patterns_in (from 1 parts)) parts keeps (each_append so (patterns_mean (from 1 parts) (from_mean 1 within))) within) (is_annotation head)
   where
     by : ((d : Draft) → Sound s d → Good s d (λ _ body. BodyMeans body) (body_of (so_far ++ patterns_in (from 1 parts)) parts d)) → (b : Bool)
-        → Good s draft (λ _ body. BodyMeans body) (cond b (attributes_of head.place parts >> body_of (so_far ++ patterns_in (from 1 parts)) parts) (made (record { patterns = so_far; tree = Group paren meaning (Token head parts) trees })) draft)
+        → Good s draft (λ _ body. BodyMeans body) (cond b (attributes_of head.place parts >> body_of (so_far ++ patterns_in (from 1 parts)) parts) (gives (record { patterns = so_far; tree = Group paren meaning (Token head parts) trees })) draft)
     by deeper true = good_then s draft _ (passes_attributes_of s draft head.place parts sound) λ _ d1 k1 e1 _. deeper d1 k1
     by deeper false = good_made s draft (record { patterns = so_far; tree = Group paren meaning (Token head parts) trees }) sound (record { tree_means = group is (token within) rest; patterns_are = so })
 good_body s draft so_far trees sound so all = good_made s draft (record { patterns = so_far; tree = trees }) sound (record { tree_means = all; patterns_are = so })

@@ -124,7 +124,7 @@ gives_then : {A B : Type 0} {P : A → Type 0} {Q : B → Type 0} (rest : A → 
 gives_then rest (gives {v = v} {draft = draft} is) goes = goes v draft is
 gives_then rest gives_none goes = gives_none
 
-gives_want : (test : Bool) (refusal : Refusal) (place : Place) (draft : Draft) → Gives (λ _. test ≡ true) (want test refusal place draft)
+gives_want : (test : Bool) (refusal : Refusal) (place : Place) (draft : Draft) → Gives (λ _. test ≡ true) (must_hold test refusal place draft)
 gives_want true refusal place draft = gives refl
 gives_want false refusal place draft = gives_none
 

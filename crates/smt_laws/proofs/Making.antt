@@ -15,7 +15,7 @@ use Rattle.formula_draft.proofs.KeptLaws.{IsDraft-row, IsDraft-node}
 use Rattle.smt_names.specs.declared.syntax_fault.SyntaxFault.{SyntaxFault}
 use Rattle.smt_names.specs.declared.refusal.Refusal.{Refusal}
 use Rattle.smt_names.specs.declared.refusal.Refusal.TheVariants.{TermsFull, NodesFull}
-use Rattle.smt_names.specs.Making.{Making, made, then_from, or_full, row, node, want}
+use Rattle.smt_names.specs.Making.{Making, gives, then_from, or_full, row, node, must_hold}
 use Rattle.formula_draft.specs.Sorted.{Signature, HasSort, HaveSorts, IsPlain, ArePlain, IsTruth, AreTruths}
 use Rattle.smt_laws.specs.Sound.{IsWhole}
 use Rattle.smt_laws.proofs.Growing.{keeps_all, Extends, extends_itself, extends_twice, rows_keep, nodes_keep, foralls_keep, sort_kept, sorts_kept, plain_kept, plains_kept, truth_kept, truths_kept}
@@ -89,10 +89,10 @@ good_then s old rest (makes {value = value} {new = new} sound extends fits) goes
 good_then s old rest refuses goes = refuses
 
 -- nothing put
-pub good_made : {A : Type 0} (s : Setting) (draft : Draft) {P : Draft → A → Type 0} (value : A) → Sound s draft → P draft value → Good s draft P (made value draft)
+pub good_made : {A : Type 0} (s : Setting) (draft : Draft) {P : Draft → A → Type 0} (value : A) → Sound s draft → P draft value → Good s draft P (gives value draft)
 good_made s draft value sound fits = makes sound (extends_itself draft) fits
 
-pub good_want : (s : Setting) (draft : Draft) (test : Bool) (refusal : Refusal) (place : Place) → Sound s draft → Good s draft (λ _ _. test ≡ true) (want test refusal place draft)
+pub good_want : (s : Setting) (draft : Draft) (test : Bool) (refusal : Refusal) (place : Place) → Sound s draft → Good s draft (λ _ _. test ≡ true) (must_hold test refusal place draft)
 good_want s draft true refusal place sound = makes sound (extends_itself draft) refl
 good_want s draft false refusal place sound = refuses
 

@@ -7,7 +7,7 @@ use Rattle.smt_names.specs.declared.refusal.Refusal.{Refusal}
 use Rattle.smt_names.specs.declared.syntax_fault.SyntaxFault.{SyntaxFault}
 use Rattle.smt_names.specs.declared.stop.Stop.{Stop}
 use Rattle.smt_names.specs.declared.stop.Stop.TheVariants as stop
-use Rattle.smt_names.specs.Making.{Making, then_from, fault_of, want, want_named}
+use Rattle.smt_names.specs.Making.{Making, then_from, fault_of, must_hold, must_hold_named}
 use Rattle.smt_names.specs.Makes.{StopsWith, Refuses}
 
 module _ {A B : Type 0} (rest : A → Making B) where
@@ -25,12 +25,12 @@ module _ {A B : Type 0} (rest : A → Making B) where
   made_after first value later is = rw is refl
 
 -- a test that fails
-pub unwanted : (stopped : Stop) (test : Bool) (refusal : Refusal) (place : Place) (name : List ℕ) (draft : Draft) → StopsWith stopped (fault_of refusal place name) → test ≡ false → Refuses stopped (want_named test refusal place name draft)
+pub unwanted : (stopped : Stop) (test : Bool) (refusal : Refusal) (place : Place) (name : List ℕ) (draft : Draft) → StopsWith stopped (fault_of refusal place name) → test ≡ false → Refuses stopped (must_hold_named test refusal place name draft)
 unwanted stop.Memory test refusal place name draft is fails = tt
 unwanted (stop.Refused fault) test refusal place name draft is fails = rw (fails, is) refl
 
 -- a test that holds
-pub wanted : (test : Bool) (refusal : Refusal) (place : Place) (name : List ℕ) (draft : Draft) → test ≡ true → want_named test refusal place name draft ≡ Ok (tt, draft)
+pub wanted : (test : Bool) (refusal : Refusal) (place : Place) (name : List ℕ) (draft : Draft) → test ≡ true → must_hold_named test refusal place name draft ≡ Ok (tt, draft)
 wanted test refusal place name draft holds = rw holds refl
 
 pub not_zero : (n : ℕ) → (n ≡ 0 → ⊥) → not (n == 0) ≡ true

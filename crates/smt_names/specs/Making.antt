@@ -14,8 +14,8 @@ abbrev pub Making : Type 0 → Type 0
 Making A = Draft → Result (A × Draft) SyntaxFault
 
 -- a value that is there, and nothing put
-abbrev pub made : {A : Type 0} → A → Making A
-made value draft = Ok (value, draft)
+abbrev pub gives : {A : Type 0} → A → Making A
+gives value draft = Ok (value, draft)
 
 -- what follows goes on with the value and the formula, or the refusal stays
 abbrev pub then_from : {A B : Type 0} → (A → Making B) → Result (A × Draft) SyntaxFault →
@@ -50,12 +50,12 @@ abbrev pub not_in_profile : {A : Type 0} → Place → Making A
 not_in_profile place = refuse NotInProfile place
 
 -- goes on where the test holds
-abbrev pub want : Bool → Refusal → Place → Making (Unit {0})
-want test refusal place = cond test (made tt) (refuse refusal place)
+abbrev pub must_hold : Bool → Refusal → Place → Making (Unit {0})
+must_hold test refusal place = cond test (gives tt) (refuse refusal place)
 
 -- the same, of a name
-abbrev pub want_named : Bool → Refusal → Place → List ℕ → Making (Unit {0})
-want_named test refusal place name = cond test (made tt) (refuse_named refusal place name)
+abbrev pub must_hold_named : Bool → Refusal → Place → List ℕ → Making (Unit {0})
+must_hold_named test refusal place name = cond test (gives tt) (refuse_named refusal place name)
 
 -- what was put, or that there was no room for it
 abbrev pub or_full : Refusal → Place → Option (ℕ × Draft) → Result (ℕ × Draft) SyntaxFault
@@ -72,10 +72,10 @@ node at new draft = or_full NodesFull at (with_node new draft)
 
 -- a node, where there is one to put
 abbrev pub node_if : Place → Option DraftNode → Making (Option ℕ)
-node_if at None = made None
+node_if at None = gives None
 node_if at (Some new) = do
   n ← node at new
-  made (Some n)
+  gives (Some n)
 
 -- a forall, which is put last: its number is its place
 abbrev pub put_forall : DraftForall → Making ℕ

@@ -21,8 +21,8 @@ use Rattle.smt_names.specs.declared.level.Level.{Level}
 use Rattle.smt_names.specs.declared.head.Head.{Head}
 use Rattle.smt_names.specs.declared.head.Head.TheVariants as head
 use Rattle.smt_names.specs.declared.refusal.Refusal.TheVariants.{BadForm, NotInProfile, UnknownName, AlreadyDeclared}
-use Rattle.smt_names.specs.Making.{Making, made, ◌>>=◌, ◌>>◌, want}
-use Rattle.smt_names.specs.Making.{want_named, refuse_named, bad_form, not_in_profile}
+use Rattle.smt_names.specs.Making.{Making, gives, ◌>>=◌, ◌>>◌, must_hold}
+use Rattle.smt_names.specs.Making.{must_hold_named, refuse_named, bad_form, not_in_profile}
 
 -- a declared function: its name, the sorts of its arguments, and the sort of its value
 pub record Declared : Type 0 where
@@ -202,7 +202,7 @@ is_reserved name = list_any (bytes_eq name) reserved_names
 
 -- a name that may be bound: a symbol that is none of the eight
 abbrev pub lawful_name : Word → Making (Unit {0})
-lawful_name word = want (is_symbol word.kind && not (is_reserved word.text)) BadForm word.place
+lawful_name word = must_hold (is_symbol word.kind && not (is_reserved word.text)) BadForm word.place
 
 abbrev pub begins_with : List ℕ → ℕ → Bool
 begins_with [] b = false
@@ -216,13 +216,13 @@ is_solver_name name = begins_with name 64 || begins_with name 46
 abbrev pub new_name : Word → Making (Unit {0})
 new_name word = do
   lawful_name word
-  want (not (is_solver_name word.text)) BadForm word.place
+  must_hold (not (is_solver_name word.text)) BadForm word.place
 
 -- a name that a function or a definition may get: it stands for nothing
 abbrev pub new_function_name : State → Word → Making (Unit {0})
 new_function_name state word = do
   new_name word
-  want_named (not (is_known (named state word.text))) AlreadyDeclared word.place word.text
+  must_hold_named (not (is_known (named state word.text))) AlreadyDeclared word.place word.text
 
 -- Sorts.
 -- the number of a sort: Bool is 0, and the declared sorts count from 1
@@ -237,11 +237,11 @@ sort_number state name = cond (bytes_eq name (codes "Bool")) (Some 0)
 abbrev pub new_sort_name : State → Word → Making (Unit {0})
 new_sort_name state word = do
   new_name word
-  want_named (not (is_some (sort_number state word.text))) AlreadyDeclared word.place word.text
+  must_hold_named (not (is_some (sort_number state word.text))) AlreadyDeclared word.place word.text
 
 abbrev pub known_sort : Word → Option ℕ → Making ℕ
 known_sort word None = refuse_named UnknownName word.place word.text
-known_sort word (Some sort) = made sort
+known_sort word (Some sort) = gives sort
 
 -- the sort that a token names
 abbrev pub sort_of_token : State → Word → Making ℕ
@@ -252,8 +252,8 @@ sort_of_token state word = cond (is_symbol word.kind) (known_sort word (sort_num
 abbrev pub other_sort_of_token : State → Word → Making ℕ
 other_sort_of_token state word = do
   sort ← sort_of_token state word
-  want (not (sort == 0)) NotInProfile word.place
-  made sort
+  must_hold (not (sort == 0)) NotInProfile word.place
+  gives sort
 
 -- Changes of the state.
 -- the sorts of a declared function

@@ -12,7 +12,7 @@ use Rattle.smt_names.specs.declared.syntax_fault.SyntaxFault.{SyntaxFault}
 use Rattle.smt_names.specs.declared.refusal.Refusal.{Refusal}
 use Rattle.smt_names.specs.declared.refusal.Refusal.TheVariants as refusal
 use Rattle.smt_names.specs.Makes.{Makes, Refuses, StopsWith, Checks}
-use Rattle.smt_names.specs.Making.{Making, made, want, fault_of, then_from, ◌>>◌}
+use Rattle.smt_names.specs.Making.{Making, gives, must_hold, fault_of, then_from, ◌>>◌}
 use Rattle.smt_names.specs.Names.{is_keyword, is_wide, number_from, word_of, lawful_name}
 use Rattle.smt_terms.specs.Reading.{Reading, Meaning, End, Token, Group, from, at_least, attributes_after, attributes_of, binding_name, new_binding, bindings_after}
 use Rattle.smt_terms.specs.Checks.{ChecksAs}
@@ -102,11 +102,11 @@ module _ (names : List (List ℕ)) (missing : Place) (w : Word) (trees rest : Re
       ∙ ap (then_from (λ (_ : Unit {0}). want (not (list_any (bytes_eq w.text) names)) refusal.BadForm w.place >> made w)) (lawful draft)
 
   pub name_new : list_any (bytes_eq w.text) names ≡ false → (draft : Draft) → new_binding names missing trees draft ≡ Ok (w, draft)
-  name_new fresh draft = new_means draft ∙ ap (λ (b : Bool). then_from (λ (_ : Unit {0}). made w) (want (not b) refusal.BadForm w.place draft)) fresh
+  name_new fresh draft = new_means draft ∙ ap (λ (b : Bool). then_from (λ (_ : Unit {0}). gives w) (must_hold (not b) refusal.BadForm w.place draft)) fresh
 
   pub name_old : (stopped : Stop) (place : Place) → place ≡ w.place → list_any (bytes_eq w.text) names ≡ true → StopsWith stopped (fault_of refusal.BadForm place []) → (draft : Draft) → Refuses stopped (new_binding names missing trees draft)
   name_old stop.Memory place at old stops draft = tt {0}
-  name_old (stop.Refused fault) place at old stops draft = new_means draft ∙ ap (λ (b : Bool). then_from (λ (_ : Unit {0}). made w) (want (not b) refusal.BadForm w.place draft)) old
+  name_old (stop.Refused fault) place at old stops draft = new_means draft ∙ ap (λ (b : Bool). then_from (λ (_ : Unit {0}). gives w) (must_hold (not b) refusal.BadForm w.place draft)) old
       ∙ ap (λ (p : Place). Err (fault_of refusal.BadForm p [])) (sym at) ∙ ap Err (sym stops)
 
 pub refuses_at : {A : Type 0} (stopped : Stop) (r : Refusal) (a b : Place) (result : Result A SyntaxFault)

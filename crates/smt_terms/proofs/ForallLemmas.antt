@@ -11,7 +11,7 @@ use Rattle.smt_names.specs.declared.stop.Stop.{Stop}
 use Rattle.smt_names.specs.declared.syntax_fault.SyntaxFault.{SyntaxFault}
 use Rattle.smt_names.specs.declared.refusal.Refusal.{Refusal}
 use Rattle.smt_names.specs.declared.refusal.Refusal.TheVariants as refusal
-use Rattle.smt_names.specs.Making.{Making, made, then_from, ◌>>◌, ◌>>=◌}
+use Rattle.smt_names.specs.Making.{Making, gives, then_from, ◌>>◌, ◌>>=◌}
 use Rattle.smt_names.specs.Makes.{Refuses}
 use Rattle.smt_names.specs.Names.{State, Scope, bound_of}
 use Rattle.smt_terms.specs.Reading.{Reading, End, Token, Group, from, Listed, exactly, some_bindings, no_binding as refused_binding, other_sort, attributes_of}
@@ -37,7 +37,7 @@ variables_none state index (Group p meaning (Group q reading inner more) trees) 
 
 -- the variables behind some
 abbrev pub behind_variables : List Bound → Result (List Bound × Draft) SyntaxFault → Result (List Bound × Draft) SyntaxFault
-behind_variables so_far more = then_from (λ (vs : List Bound). made (so_far ++ vs)) more
+behind_variables so_far more = then_from (λ (vs : List Bound). gives (so_far ++ vs)) more
 
 pub behind_none : (more : Result (List Bound × Draft) SyntaxFault) → behind_variables [] more ≡ more
 behind_none (Ok found) = refl
@@ -62,7 +62,7 @@ module _ (words : List Word) (state : State) (at name behind index : ℕ) (sees 
       named = all ∙ ap (λ (t : List ℕ). so_far ++ bound_of t (Variable index sort) ∷ []) called
 
       by : (r : Result (List Bound × Draft) SyntaxFault)
-          → behind_variables so_far (then_from (λ (vs : List Bound). made (record { name = (word_at words name).text; stands = Variable index sort } ∷ vs)) r) ≡ behind_variables more r
+          → behind_variables so_far (then_from (λ (vs : List Bound). gives (record { name = (word_at words name).text; stands = Variable index sort } ∷ vs)) r) ≡ behind_variables more r
       by (Ok r) = ap (λ (vs : List Bound). Ok (vs, r.1)) (sym (append_assoc so_far (record { name = (word_at words name).text; stands = Variable index sort } ∷ []) r.0) ∙ ap (λ (xs : List Bound). xs ++ r.0) (sym named))
       by (Err fault) = refl
 

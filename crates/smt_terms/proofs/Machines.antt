@@ -12,7 +12,7 @@ use Rattle.smt_names.specs.declared.arg.Arg.{Arg}
 use Rattle.smt_names.specs.declared.bound.Bound.{Bound}
 use Rattle.smt_names.specs.declared.head.Head.{Head}
 use Rattle.smt_names.specs.declared.syntax_fault.SyntaxFault.{SyntaxFault}
-use Rattle.smt_names.specs.Making.{Making, made, then_from, ◌>>=◌}
+use Rattle.smt_names.specs.Making.{Making, gives, then_from, ◌>>=◌}
 use Rattle.smt_names.specs.Names.{State, Scope, named_by}
 use Rattle.smt_forms.specs.Applied.{applied}
 use Rattle.smt_terms.specs.declared.frame.Frame.{Frame}
@@ -30,7 +30,7 @@ use Rattle.smt_terms.specs.Machine.{outside, with_bound, applies, binds, takes_b
 abbrev Made : Type 0
 Made = Result (Value × Draft) SyntaxFault
 
-then_made : (first : Made) → then_from made first ≡ first
+then_made : (first : Made) → then_from gives first ≡ first
 then_made (Ok done) = refl
 then_made (Err fault) = refl
 
@@ -38,14 +38,14 @@ module _ (words : List Word) where
   -- an application gets the value of its next tree
   gets : (scope : Scope) (f : Frame) (called : ℕ) (head : Head) (args : List Arg) (at : Place) (rest : Reading) (first : Made)
       → then_from (λ (more : List Arg). applied f.paren f.head (word_at words called).text (named_by scope.state head) (args ++ more))
-      (then_from (λ (v : Value). values scope rest >>= λ (more : List Arg). made (record { place = at; value = v } ∷ more)) first)
+      (then_from (λ (v : Value). values scope rest >>= λ (more : List Arg). gives (record { place = at; value = v } ∷ more)) first)
       ≡ then_from (λ (v : Value). applies words scope f called head (args ++ record { place = at; value = v } ∷ []) rest) first
   gets scope f called head args at rest (Err fault) = refl
   gets scope f called head args at rest (Ok done) = by (values scope rest done.1)
     where
       by : (others : Result (List Arg × Draft) SyntaxFault)
           → then_from (λ (more : List Arg). applied f.paren f.head (word_at words called).text (named_by scope.state head) (args ++ more))
-          (then_from (λ (more : List Arg). made (record { place = at; value = done.0 } ∷ more)) others)
+          (then_from (λ (more : List Arg). gives (record { place = at; value = done.0 } ∷ more)) others)
           ≡ then_from (λ (more : List Arg). applied f.paren f.head (word_at words called).text (named_by scope.state head) ((args ++ record { place = at; value = done.0 } ∷ []) ++ more)) others
       by (Ok more) = ap (λ (all : List Arg). applied f.paren f.head (word_at words called).text (named_by scope.state head) all more.1) (sym (append_assoc args (record { place = at; value = done.0 } ∷ []) more.0))
       by (Err fault) = refl

@@ -9,7 +9,7 @@ use Rattle.smt_names.specs.declared.bound.Bound.{Bound}
 use Rattle.smt_names.specs.declared.stop.Stop.{Stop}
 use Rattle.smt_names.specs.declared.syntax_fault.SyntaxFault.{SyntaxFault}
 use Rattle.smt_names.specs.declared.refusal.Refusal.TheVariants as refusal
-use Rattle.smt_names.specs.Making.{Making, made, then_from, ◌>>◌, ◌>>=◌}
+use Rattle.smt_names.specs.Making.{Making, gives, then_from, ◌>>◌, ◌>>=◌}
 use Rattle.smt_names.specs.Makes.{Refuses, Checks}
 use Rattle.smt_names.specs.Names.{Scope}
 use Rattle.smt_terms.specs.Reading.{Reading, Meaning, End, Token, Group, from, at_least, no_more}
@@ -21,7 +21,7 @@ use Rattle.smt_terms.proofs.CheckLemmas.{refuses_all, refuses_first, weighs_toke
 
 -- a list behind some items
 abbrev pub behind_items : {A : Type 0} → List A → Result (List A × Draft) SyntaxFault → Result (List A × Draft) SyntaxFault
-behind_items so_far more = then_from (λ items. made (so_far ++ items)) more
+behind_items so_far more = then_from (λ items. gives (so_far ++ items)) more
 
 pub behind_no_items : {A : Type 0} (more : Result (List A × Draft) SyntaxFault) → behind_items [] more ≡ more
 behind_no_items (Ok found) = refl
@@ -31,7 +31,7 @@ pub items_end : {A : Type 0} (so_far : List A) (draft : Draft) (more : Result (L
 items_end so_far draft more is = ap (behind_items so_far) is ∙ ap (λ items. Ok (items, draft)) (append-nil so_far)
 
 -- an item more is put last
-pub items_next : {A : Type 0} (so_far more : List A) (x : A) (rest : Result (List A × Draft) SyntaxFault) → more ≡ so_far ++ x ∷ [] → behind_items more rest ≡ behind_items so_far (then_from (λ items. made (x ∷ items)) rest)
+pub items_next : {A : Type 0} (so_far more : List A) (x : A) (rest : Result (List A × Draft) SyntaxFault) → more ≡ so_far ++ x ∷ [] → behind_items more rest ≡ behind_items so_far (then_from (λ items. gives (x ∷ items)) rest)
 items_next so_far more x (Ok r) all = ap (λ items. Ok (items ++ r.0, r.1)) all ∙ ap (λ items. Ok (items, r.1)) (append_assoc so_far (x ∷ []) r.0)
 items_next so_far more x (Err fault) all = refl
 
@@ -125,12 +125,12 @@ module _ (scope : Scope) (variables : List Bound) (a : Attribute) (attributes al
   pub trigger_next : (so_far more : List Trigger) (t : Trigger) (draft later : Draft) → trigger scope variables a draft ≡ Ok (t, later) → more ≡ so_far ++ t ∷ []
       → behind_items more (triggers scope variables attributes later) ≡ behind_items so_far (triggers scope variables all_left draft)
   trigger_next so_far more t draft later is all = items_next so_far more t (triggers scope variables attributes later) all
-      ∙ sym (ap (behind_items so_far) (ap (λ (xs : List Attribute). triggers scope variables xs draft) left ∙ ap (then_from (λ (x : Trigger). triggers scope variables attributes >>= λ (xs : List Trigger). made (x ∷ xs))) is))
+      ∙ sym (ap (behind_items so_far) (ap (λ (xs : List Attribute). triggers scope variables xs draft) left ∙ ap (then_from (λ (x : Trigger). triggers scope variables attributes >>= λ (xs : List Trigger). gives (x ∷ xs))) is))
 
   pub trigger_refused : (stopped : Stop) (so_far : List Trigger) (draft : Draft) (whole : Result (List Trigger × Draft) SyntaxFault) → behind_items so_far (triggers scope variables all_left draft) ≡ whole
       → Refuses stopped (trigger scope variables a draft) → Refuses stopped whole
   trigger_refused stopped so_far draft whole same = refuses_all stopped _ whole
-      (λ fault e. sym same ∙ ap (behind_items so_far) (ap (λ (xs : List Attribute). triggers scope variables xs draft) left ∙ ap (then_from (λ (x : Trigger). triggers scope variables attributes >>= λ (xs : List Trigger). made (x ∷ xs))) e))
+      (λ fault e. sym same ∙ ap (behind_items so_far) (ap (λ (xs : List Attribute). triggers scope variables xs draft) left ∙ ap (then_from (λ (x : Trigger). triggers scope variables attributes >>= λ (xs : List Trigger). gives (x ∷ xs))) e))
 
 front_of : {X : Type 0} (xs ys : List X) → take (length xs) (xs ++ ys) ≡ xs
 front_of [] ys = refl

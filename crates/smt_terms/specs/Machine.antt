@@ -11,7 +11,7 @@ use Rattle.smt_names.specs.declared.bound.Bound.{Bound}
 use Rattle.smt_names.specs.declared.head.Head.{Head}
 use Rattle.smt_names.specs.declared.stop.Stop.{Stop}
 use Rattle.smt_names.specs.declared.syntax_fault.SyntaxFault.{SyntaxFault}
-use Rattle.smt_names.specs.Making.{Making, made, then_from, ◌>>=◌}
+use Rattle.smt_names.specs.Making.{Making, gives, then_from, ◌>>=◌}
 use Rattle.smt_names.specs.Makes.{Refuses}
 use Rattle.smt_names.specs.Names.{State, Scope, Unknown, named, named_by, head_of, is_known}
 use Rattle.smt_forms.specs.Applied.{applied}
@@ -79,7 +79,7 @@ module _ (words : List Word) where
       ++ record { place = at; value = v } ∷ []) trees
   takes_by (Let name done next body) scope f trees at v = binds scope f.head (done.items
       ++ bind (word_at words name).text v ∷ []) next body
-  takes_by (Pass bound) scope f trees at v = made v
+  takes_by (Pass bound) scope f trees at v = gives v
 
   -- a list goes on with these trees
   abbrev pub goes_by : Work → Scope → Frame → Reading → Making Value

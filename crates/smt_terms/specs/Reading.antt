@@ -6,7 +6,7 @@ use Rattle.smt_text.specs.declared.token.Place.{Place}
 use Rattle.smt_names.specs.declared.value.Value.{Value}
 use Rattle.smt_names.specs.declared.refusal.Refusal.{Refusal}
 use Rattle.smt_names.specs.declared.refusal.Refusal.TheVariants.{BadForm, NotInProfile}
-use Rattle.smt_names.specs.Making.{Making, made, ◌>>=◌, ◌>>◌, want, refuse, bad_form, not_in_profile}
+use Rattle.smt_names.specs.Making.{Making, gives, ◌>>=◌, ◌>>◌, must_hold, refuse, bad_form, not_in_profile}
 use Rattle.smt_names.specs.Names.{State, Scope, is_keyword, is_wide, lawful_name, sort_of_token}
 
 -- what a term means: in each scope it makes a value, or is refused
@@ -56,7 +56,7 @@ exactly n missing trees = do
 -- the token that a first tree must be
 abbrev pub token_first : Place → Reading → Making Word
 token_first missing End = bad_form missing
-token_first missing (Token word trees) = made word
+token_first missing (Token word trees) = gives word
 token_first missing (Group paren meaning inner trees) = bad_form paren.place
 
 -- the parenthesis and the trees of the list that a first tree must be
@@ -67,7 +67,7 @@ pub record Listed : Type 0 where
 abbrev pub list_first : Place → Reading → Making Listed
 list_first missing End = bad_form missing
 list_first missing (Token word trees) = bad_form word.place
-list_first missing (Group paren meaning inner trees) = made (record { paren = paren; inner = inner })
+list_first missing (Group paren meaning inner trees) = gives (record { paren = paren; inner = inner })
 
 -- the sort that a first tree names: Bool or a declared one
 abbrev pub sort_first : State → Place → Reading → Making ℕ
@@ -79,16 +79,16 @@ sort_first state missing (Group paren meaning inner trees) = not_in_profile pare
 abbrev pub other_sort : State → Place → Reading → Making ℕ
 other_sort state missing trees = do
   sort ← sort_first state missing trees
-  want (not (sort == 0)) NotInProfile (first_place missing trees)
-  made sort
+  must_hold (not (sort == 0)) NotInProfile (first_place missing trees)
+  gives sort
 
 -- a name that may be bound, and is none of these
 abbrev pub new_binding : List (List ℕ) → Place → Reading → Making Word
 new_binding names missing trees = do
   name ← token_first missing trees
   lawful_name name
-  want (not (list_any (bytes_eq name.text) names)) BadForm name.place
-  made name
+  must_hold (not (list_any (bytes_eq name.text) names)) BadForm name.place
+  gives name
 
 -- the place of the head of a list, the token that it begins with, or, where it has no head, this one
 abbrev pub head_place : Place → Reading → Place
@@ -119,12 +119,12 @@ abbrev pub some_bindings : Place → Reading → Making Listed
 some_bindings missing trees = do
   listed ← list_first missing trees
   one_or_more listed.paren.place listed.inner
-  made listed
+  gives listed
 
 -- the name of a binding too many is refused
 abbrev pub no_binding : Refusal → Reading → Making (Unit {0})
 no_binding refusal (Group paren meaning (Token name given) trees) = refuse refusal name.place
-no_binding refusal trees = made tt
+no_binding refusal trees = gives tt
 
 -- attributes from here on: keywords, and behind each of them perhaps one value, a token or a list; whether a value
 -- may come next
@@ -132,10 +132,10 @@ abbrev pub attributes_after : Bool → Reading → Making (Unit {0})
 attributes_after valued End = made tt
 attributes_after valued (Token word trees) = cond (is_keyword word.kind) (attributes_after true trees)
     (do
-      want (valued && not (is_wide word)) BadForm word.place
+      must_hold (valued && not (is_wide word)) BadForm word.place
       attributes_after false trees)
 attributes_after valued (Group paren meaning inner trees) = do
-  want valued BadForm paren.place
+  must_hold valued BadForm paren.place
   attributes_after false trees
 
 -- the attributes behind the first tree of what stands behind !, of which there is one or more

@@ -17,7 +17,7 @@ use Rattle.smt_names.specs.declared.stands.Stands.{Stands}
 use Rattle.smt_names.specs.declared.stands.Stands.TheVariants.{Given, Variable}
 use Rattle.smt_names.specs.declared.refusal.Refusal.TheVariants as refusal
 use Rattle.smt_names.specs.Value.{sort_of, self}
-use Rattle.smt_names.specs.Making.{Making, made, ◌>>=◌, ◌>>◌, want, refuse_named}
+use Rattle.smt_names.specs.Making.{Making, gives, ◌>>=◌, ◌>>◌, must_hold, refuse_named}
 use Rattle.smt_names.specs.Making.{bad_form, not_in_profile, row, node, put_forall}
 use Rattle.smt_names.specs.Names.{State, Scope, bound_as, Named, Unknown, named, is_reserved, is_symbol, is_keyword}
 use Rattle.smt_forms.specs.Applied.{applied}
@@ -31,13 +31,13 @@ use Rattle.smt_terms.specs.Reading.{at_least, exactly, Listed, other_sort, some_
 -- Tokens.
 -- what a bound name stands for; inside a forall a formula must have a complement
 abbrev pub stood_for : Scope → Place → Stands → Making Value
-stood_for scope at (Given (Term r sort)) = made (Term r sort)
+stood_for scope at (Given (Term r sort)) = gives (Term r sort)
 stood_for scope at (Given (Formula n c)) = do
-  want (not scope.in_forall || is_some c) refusal.NotInProfile at
-  made (Formula n c)
+  must_hold (not scope.in_forall || is_some c) refusal.NotInProfile at
+  gives (Formula n c)
 stood_for scope at (Variable index sort) = do
   r ← row at (Var index)
-  made (Term r sort)
+  gives (Term r sort)
 
 -- a name that is not bound: it has no arguments
 abbrev pub free_value : Word → Named → Making Value
@@ -69,7 +69,7 @@ abbrev pub add_value : Place → Making Value → Making (List Arg) → Making (
 add_value at first others = do
   v ← first
   args ← others
-  made (record { place = at; value = v } ∷ args)
+  gives (record { place = at; value = v } ∷ args)
 
 -- the values of all trees, from left to right
 abbrev pub values : Scope → Reading → Making (List Arg)
@@ -81,8 +81,8 @@ values scope (Group paren meaning inner trees) = add_value paren.place (meaning 
 abbrev pub truth : Place → Scope → Reading → Making Value
 truth missing scope trees = do
   v ← value missing scope trees
-  want (sort_of v == 0) refusal.WrongSort (first_place missing trees)
-  made v
+  must_hold (sort_of v == 0) refusal.WrongSort (first_place missing trees)
+  gives v
 
 -- Form 1: let.
 abbrev pub bind : List ℕ → Value → Bound
@@ -92,13 +92,13 @@ abbrev pub add_bound : List ℕ → Making Value → Making (List Bound) → Mak
 add_bound name first others = do
   v ← first
   bound ← others
-  made (bind name v ∷ bound)
+  gives (bind name v ∷ bound)
 
 -- the values of bindings whose form is right, all in one scope
 abbrev pub bound_values : Scope → Reading → Making (List Bound)
 bound_values scope (Group paren meaning (Token name term) after) = add_bound name.text (value name.place scope term)
     (bound_values scope after)
-bound_values scope trees = made []
+bound_values scope trees = gives []
 
 abbrev pub let_value : Place → Reading → Meaning
 let_value head parts scope = do
@@ -118,13 +118,13 @@ abbrev pub add_variable : List ℕ → ℕ → Making ℕ → Making (List Bound
 add_variable name index first others = do
   sort ← first
   variables ← others
-  made (record { name = name; stands = Variable index sort } ∷ variables)
+  gives (record { name = name; stands = Variable index sort } ∷ variables)
 
 -- the variables of bindings whose form is right, from this index on
 abbrev pub variables_from : State → ℕ → Reading → Making (List Bound)
 variables_from state index (Group paren meaning (Token name given) after) = add_variable name.text index
     (other_sort state name.place given) (variables_from state (index + 1) after)
-variables_from state index trees = made []
+variables_from state index trees = gives []
 
 abbrev pub is_pattern_key : Word → Bool
 is_pattern_key word = is_keyword word.kind && bytes_eq word.text (codes ":pattern")
@@ -159,8 +159,8 @@ body_of so_far (Group paren meaning (Token head parts) trees) =
     (do
       attributes_of head.place parts
       body_of (so_far ++ patterns_in (from 1 parts)) parts)
-    (made (record { patterns = so_far; tree = Group paren meaning (Token head parts) trees }))
-body_of so_far trees = made (record { patterns = so_far; tree = trees })
+    (gives (record { patterns = so_far; tree = Group paren meaning (Token head parts) trees }))
+body_of so_far trees = gives (record { patterns = so_far; tree = trees })
 
 -- the row of a pattern with this meaning
 abbrev pub pattern_root : Place → Making Value → Making ℕ
@@ -172,7 +172,7 @@ abbrev pub add_root : Making ℕ → Making (List ℕ) → Making (List ℕ)
 add_root first others = do
   r ← first
   roots ← others
-  made (r ∷ roots)
+  gives (r ∷ roots)
 
 -- the roots of patterns, from left to right
 abbrev pub pattern_roots : Scope → Reading → Making (List ℕ)
@@ -186,7 +186,7 @@ pattern_roots scope (Group paren meaning inner trees) = add_root (pattern_root p
 abbrev pub pattern_list : Place → Reading → Making Listed
 pattern_list key End = bad_form key
 pattern_list key (Token word trees) = bad_form (cond (is_keyword word.kind) key word.place)
-pattern_list key (Group paren meaning inner trees) = made (record { paren = paren; inner = inner })
+pattern_list key (Group paren meaning inner trees) = gives (record { paren = paren; inner = inner })
 
 -- a trigger: the value of :pattern
 abbrev pub trigger : Scope → List Bound → Attribute → Making Trigger
@@ -198,11 +198,11 @@ trigger scope variables attribute = do
   rooted_trigger variables listed.paren.place roots
 
 abbrev pub triggers : Scope → List Bound → List Attribute → Making (List Trigger)
-triggers scope variables [] = made []
+triggers scope variables [] = gives []
 triggers scope variables (a ∷ attributes) = do
   first ← trigger scope variables a
   others ← triggers scope variables attributes
-  made (first ∷ others)
+  gives (first ∷ others)
 
 abbrev pub some_trigger : List Trigger → Bool
 some_trigger [] = false
@@ -217,10 +217,10 @@ abbrev pub quantified : (paren head : Place) → Scope → List Bound → Body �
 quantified paren head scope variables body = do
   v ← truth head (inside_of scope variables) body.tree
   patterns ← triggers (inside_of scope variables) variables body.patterns
-  want (some_trigger patterns) refusal.NotInProfile head
+  must_hold (some_trigger patterns) refusal.NotInProfile head
   index ← put_forall (draft_forall (length variables) (self v) patterns)
   n ← node paren (Forall index)
-  made (Formula n None)
+  gives (Formula n None)
 
 -- a forall of these variables: the attributes round its body, and then the body and the triggers
 abbrev pub body_forall : (paren head : Place) → Scope → List Bound → Reading → Making Value
@@ -244,7 +244,7 @@ checked_forall paren head parts scope = do
 
 abbrev pub forall_value : (paren head : Place) → Reading → Meaning
 forall_value paren head parts scope = do
-  want (not (scope.in_forall || scope.in_definition)) refusal.NotInProfile head
+  must_hold (not (scope.in_forall || scope.in_definition)) refusal.NotInProfile head
   checked_forall paren head parts scope
 
 -- Form 5: a name.

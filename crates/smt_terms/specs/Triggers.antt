@@ -11,7 +11,7 @@ use Rattle.smt_names.specs.declared.value.Value.TheVariants.{Formula}
 use Rattle.smt_names.specs.declared.stop.Stop.{Stop}
 use Rattle.smt_names.specs.declared.refusal.Refusal.TheVariants.{NotInProfile, TooManyPatterns}
 use Rattle.smt_names.specs.Value.{self}
-use Rattle.smt_names.specs.Making.{Making, made, ◌>>=◌, ◌>>◌, want, node, put_forall}
+use Rattle.smt_names.specs.Making.{Making, gives, ◌>>=◌, ◌>>◌, must_hold, node, put_forall}
 use Rattle.smt_names.specs.Makes.{Refuses}
 use Rattle.smt_names.specs.Names.{Scope}
 use Rattle.smt_patterns.specs.Triggers.{rooted_trigger}
@@ -65,10 +65,10 @@ HasPatterns words key (Err stop) = (scope : Scope) (variables : List Bound) (dra
 -- the forall of these variables, this body and these triggers
 abbrev pub forall_of : (paren head : Place) → ℕ → Value → List Trigger → Making Value
 forall_of paren head variables v patterns = do
-  want (some_trigger patterns) NotInProfile head
+  must_hold (some_trigger patterns) NotInProfile head
   index ← put_forall (draft_forall variables (self v) patterns)
   n ← node paren (Forall index)
-  made (Formula n None)
+  gives (Formula n None)
 
 -- the forall of these variables and this body, and the triggers with these keywords
 abbrev pub triggered : (paren head : Place) → Scope → List Bound → List Attribute → Value → Making Value

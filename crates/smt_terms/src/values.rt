@@ -1,7 +1,7 @@
 //! The values of trees inside a forall.
 ghost use Rattle.std.specs.Prelude.{◌≡◌, ◌==◌, true, OnOk};
 ghost use Rattle.smt_names.specs.declared.refusal.Refusal.TheVariants.{WrongSort};
-ghost use Rattle.smt_names.specs.Making.{want};
+ghost use Rattle.smt_names.specs.Making.{must_hold};
 ghost use Rattle.smt_names.specs.Value.{sort_of};
 ghost use Rattle.smt_names.specs.Makes.{Makes, Checks};
 ghost use Rattle.smt_terms.specs.Reading.{first_place};

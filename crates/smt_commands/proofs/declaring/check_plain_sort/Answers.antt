@@ -2,7 +2,7 @@ use Rattle.std.proofs.Common.{subst}
 use Rattle.std.proofs.lemmas.Result.{err_from_is_err_and}
 use Rattle.smt_terms.specs.Cursor.{word_at, trees_from}
 use Rattle.smt_text.specs.Word.{Word}
-use Rattle.smt_names.specs.Making.{made, ◌>>◌}
+use Rattle.smt_names.specs.Making.{gives, ◌>>◌}
 use Rattle.smt_names.specs.Makes.{Makes}
 use Rattle.smt_terms.specs.Reading.{from, Reading}
 use Rattle.smt_commands.specs.Commands.{new_sort, no_arguments}

@@ -1,7 +1,7 @@
 use Rattle.std.proofs.Common.{ℕ, List, ap, sym, subst, ◌∙◌}
 use Rattle.smt_text.specs.declared.token.Place.{Place}
 use Rattle.smt_names.specs.declared.signature.Signature.{Signature}
-use Rattle.smt_names.specs.Making.{Making, made, ◌>>=◌}
+use Rattle.smt_names.specs.Making.{Making, gives, ◌>>=◌}
 use Rattle.smt_names.specs.Makes.{Refuses}
 use Rattle.smt_names.specs.Names.{State}
 use Rattle.smt_terms.specs.Reading.{Reading, from, sort_first}
