@@ -39,11 +39,11 @@ module _ (first : Making ℕ) (whole rest : Making (List ℕ)) (means : (draft :
   sorts_refused (stop.Refused fault) so_far all draft same refused = sym same ∙ ap (behind_sorts so_far) (means draft ∙ ap (then_from (λ (s : ℕ). rest >>= λ (sorts : List ℕ). gives (s ∷ sorts))) refused)
 
 pub sorts_of_token : (state : State) (missing : Place) (trees rest : Reading) (w : Word) → trees ≡ Token w rest → (draft : Draft) → other_sorts state missing trees draft
-    ≡ then_from (λ (sort : ℕ). other_sorts state missing rest >>= λ (sorts : List ℕ). made (sort ∷ sorts)) (other_sort state missing trees draft)
+    ≡ then_from (λ (sort : ℕ). other_sorts state missing rest >>= λ (sorts : List ℕ). gives (sort ∷ sorts)) (other_sort state missing trees draft)
 sorts_of_token state missing trees rest w is draft = rw is refl
 
 pub sorts_of_list : (state : State) (missing : Place) (trees rest inner : Reading) (p : Word) (meaning : Meaning) → trees ≡ Group p meaning inner rest → (draft : Draft) → other_sorts state missing trees draft
-    ≡ then_from (λ (sort : ℕ). other_sorts state missing rest >>= λ (sorts : List ℕ). made (sort ∷ sorts)) (other_sort state missing trees draft)
+    ≡ then_from (λ (sort : ℕ). other_sorts state missing rest >>= λ (sorts : List ℕ). gives (sort ∷ sorts)) (other_sort state missing trees draft)
 sorts_of_list state missing trees rest inner p meaning is draft = rw is refl
 
 -- less work is left behind a tree

@@ -46,9 +46,9 @@ silent state = answer state Silent
 -- Parts of commands.
 -- a value of an option or an information: a token that is no keyword, or a list; it may be missing
 abbrev pub plain_value : Reading → Making (Unit {0})
-plain_value End = made tt
-plain_value (Token word trees) = want (not (is_keyword word.kind || is_wide word)) refusal.BadForm word.place
-plain_value (Group paren meaning inner trees) = made tt
+plain_value End = gives tt
+plain_value (Token word trees) = must_hold (not (is_keyword word.kind || is_wide word)) refusal.BadForm word.place
+plain_value (Group paren meaning inner trees) = gives tt
 
 abbrev pub keyword_first : Place → Reading → Making Word
 keyword_first head parts = do
@@ -171,7 +171,7 @@ declare_sort state head parts = do
 
 -- sorts other than Bool, to the end of a list
 abbrev pub other_sorts : State → Place → Reading → Making (List ℕ)
-other_sorts state paren End = made []
+other_sorts state paren End = gives []
 other_sorts state paren (Token word trees) = do
   sort ← other_sort state paren (Token word trees)
   sorts ← other_sorts state paren trees
@@ -303,7 +303,7 @@ assert_truth state head parts = do
 
 -- how many levels are asked for, 1 where no number stands
 abbrev pub levels_asked : Place → Reading → Making ℕ
-levels_asked head End = made 1
+levels_asked head End = gives 1
 levels_asked head (Token word trees) = numeral_first head (Token word trees)
 levels_asked head (Group paren meaning inner trees) = bad_form paren.place
 

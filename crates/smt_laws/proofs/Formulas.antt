@@ -15,7 +15,7 @@ use Rattle.smt_names.specs.declared.syntax_fault.SyntaxFault.{SyntaxFault}
 use Rattle.smt_names.specs.declared.refusal.Refusal.{Refusal}
 use Rattle.smt_names.specs.declared.refusal.Refusal.TheVariants as refusal
 use Rattle.smt_names.specs.Value.{self}
-use Rattle.smt_names.specs.Making.{Making, then_from, want}
+use Rattle.smt_names.specs.Making.{Making, then_from, must_hold}
 use Rattle.smt_terms.specs.Reading.{Reading, Token, Group, first_place, sort_first}
 use Rattle.smt_names.specs.Names.{State}
 use Rattle.smt_terms.specs.Terms.{reading, variables_from}

@@ -97,9 +97,9 @@ pub same_word : (w : Word) (k : Kind) (p : Place) (t : List ℕ) → k ≡ w.kin
 same_word w k p t ek ep et = rw (ek, ep, et) refl
 
 module _ (names : List (List ℕ)) (missing : Place) (w : Word) (trees rest : Reading) (is : trees ≡ Token w rest) (lawful : (draft : Draft) → lawful_name w draft ≡ Ok (tt {0}, draft)) where
-  new_means : (draft : Draft) → new_binding names missing trees draft ≡ then_from (λ (_ : Unit {0}). made w) (want (not (list_any (bytes_eq w.text) names)) refusal.BadForm w.place draft)
+  new_means : (draft : Draft) → new_binding names missing trees draft ≡ then_from (λ (_ : Unit {0}). gives w) (must_hold (not (list_any (bytes_eq w.text) names)) refusal.BadForm w.place draft)
   new_means draft = ap (λ (t : Reading). new_binding names missing t draft) is
-      ∙ ap (then_from (λ (_ : Unit {0}). want (not (list_any (bytes_eq w.text) names)) refusal.BadForm w.place >> made w)) (lawful draft)
+      ∙ ap (then_from (λ (_ : Unit {0}). must_hold (not (list_any (bytes_eq w.text) names)) refusal.BadForm w.place >> gives w)) (lawful draft)
 
   pub name_new : list_any (bytes_eq w.text) names ≡ false → (draft : Draft) → new_binding names missing trees draft ≡ Ok (w, draft)
   name_new fresh draft = new_means draft ∙ ap (λ (b : Bool). then_from (λ (_ : Unit {0}). gives w) (must_hold (not b) refusal.BadForm w.place draft)) fresh

@@ -48,14 +48,14 @@ variables_end state index trees so_far draft none = ap (behind_variables so_far)
 
 module _ (words : List Word) (state : State) (at name behind index : ℕ) (sees : SeesBinding words at name behind) where
   variables_here : (draft : Draft) → variables_from state index (trees_from words at) draft
-      ≡ then_from (λ (sort : ℕ). variables_from state (index + 1) (trees_from words behind) >>= λ (vs : List Bound). made (record { name = (word_at words name).text; stands = Variable index sort } ∷ vs)) (other_sort state (word_at words name).place (trees_from words (name + 1)) draft)
+      ≡ then_from (λ (sort : ℕ). variables_from state (index + 1) (trees_from words behind) >>= λ (vs : List Bound). gives (record { name = (word_at words name).text; stands = Variable index sort } ∷ vs)) (other_sort state (word_at words name).place (trees_from words (name + 1)) draft)
   variables_here draft = ap (λ (t : Reading). variables_from state index t draft) sees.is
 
   pub variables_next : (so_far more : List Bound) (text : List ℕ) (sort : ℕ) (draft : Draft) → other_sort state (word_at words name).place (trees_from words (name + 1)) draft ≡ Ok (sort, draft)
       → text ≡ (word_at words name).text → more ≡ so_far ++ bound_of text (Variable index sort) ∷ []
       → behind_variables more (variables_from state (index + 1) (trees_from words behind) draft) ≡ behind_variables so_far (variables_from state index (trees_from words at) draft)
   variables_next so_far more text sort draft makes called all = sym
-      (ap (behind_variables so_far) (variables_here draft ∙ ap (then_from (λ (s : ℕ). variables_from state (index + 1) (trees_from words behind) >>= λ (vs : List Bound). made (record { name = (word_at words name).text; stands = Variable index s } ∷ vs))) makes)
+      (ap (behind_variables so_far) (variables_here draft ∙ ap (then_from (λ (s : ℕ). variables_from state (index + 1) (trees_from words behind) >>= λ (vs : List Bound). gives (record { name = (word_at words name).text; stands = Variable index s } ∷ vs))) makes)
       ∙ by (variables_from state (index + 1) (trees_from words behind) draft))
     where
       named : more ≡ so_far ++ record { name = (word_at words name).text; stands = Variable index sort } ∷ []
@@ -69,7 +69,7 @@ module _ (words : List Word) (state : State) (at name behind index : ℕ) (sees 
   pub variables_refused : (stopped : Stop) (so_far : List Bound) (whole : Making (List Bound)) → ((draft : Draft) → behind_variables so_far (variables_from state index (trees_from words at) draft) ≡ whole draft)
       → ((draft : Draft) → Refuses stopped (other_sort state (word_at words name).place (trees_from words (name + 1)) draft)) → (draft : Draft) → Refuses stopped (whole draft)
   variables_refused stopped so_far whole same refused draft = refuses_all stopped _ (whole draft)
-      (λ fault e. sym (same draft) ∙ ap (behind_variables so_far) (variables_here draft ∙ ap (then_from (λ (s : ℕ). variables_from state (index + 1) (trees_from words behind) >>= λ (vs : List Bound). made (record { name = (word_at words name).text; stands = Variable index s } ∷ vs))) e)) (refused draft)
+      (λ fault e. sym (same draft) ∙ ap (behind_variables so_far) (variables_here draft ∙ ap (then_from (λ (s : ℕ). variables_from state (index + 1) (trees_from words behind) >>= λ (vs : List Bound). gives (record { name = (word_at words name).text; stands = Variable index s } ∷ vs))) e)) (refused draft)
 
 -- a keyword of a trigger is gathered
 pub gathered : (words : List Word) (keys more : List ℕ) (w : Word) (at : ℕ) → w ≡ word_at words at → attributes_at words more ≡ attributes_at words keys ++ attribute_if (is_pattern_key w) (attribute_at words at)
@@ -92,7 +92,7 @@ pub passes_annotation : (words : List Word) (keys more : List ℕ) (i next : ℕ
     → body_of (attributes_at words keys) (trees_from words i) draft ≡ body_of (attributes_at words more) (trees_from words (i + 2)) draft
 passes_annotation words keys more i next p draft annotated at holds behind all =
     ap (λ (t : Reading). body_of (attributes_at words keys) t draft) annotated.sees.is
-    ∙ ap (λ (b : Bool). cond b (attributes_of (word_at words (i + 1)).place (trees_from words (i + 1 + 1)) >> body_of (attributes_at words keys ++ patterns_in (from 1 (trees_from words (i + 1 + 1)))) (trees_from words (i + 1 + 1))) (made (plain annotated.behind)) draft) annotated.head
+    ∙ ap (λ (b : Bool). cond b (attributes_of (word_at words (i + 1)).place (trees_from words (i + 1 + 1)) >> body_of (attributes_at words keys ++ patterns_in (from 1 (trees_from words (i + 1 + 1)))) (trees_from words (i + 1 + 1))) (gives (plain annotated.behind)) draft) annotated.head
     ∙ ap (then_from (λ (_ : Unit {0}). body_of (attributes_at words keys ++ patterns_in (from 1 (trees_from words (i + 1 + 1)))) (trees_from words (i + 1 + 1))))
     (ap (λ (q : Place). attributes_of q (trees_from words (i + 1 + 1)) draft) (sym at) ∙ ap (λ (n : ℕ). attributes_of p (trees_from words n) draft) two ∙ holds)
     ∙ ap (λ (n : ℕ). body_of (attributes_at words keys ++ patterns_in (from 1 (trees_from words n))) (trees_from words n) draft) two
@@ -109,7 +109,7 @@ pub annotation_refused : (words : List Word) (keys : List ℕ) (i : ℕ) (p : Pl
     → (draft : Draft) → Refuses stopped (body_of (attributes_at words keys) (trees_from words i) draft)
 annotation_refused words keys i p stopped annotated at refused draft = refuses_all stopped _ _
     (λ fault e. ap (λ (t : Reading). body_of (attributes_at words keys) t draft) annotated.sees.is
-    ∙ ap (λ (b : Bool). cond b (attributes_of (word_at words (i + 1)).place (trees_from words (i + 1 + 1)) >> body_of (attributes_at words keys ++ patterns_in (from 1 (trees_from words (i + 1 + 1)))) (trees_from words (i + 1 + 1))) (made (plain annotated.behind)) draft) annotated.head
+    ∙ ap (λ (b : Bool). cond b (attributes_of (word_at words (i + 1)).place (trees_from words (i + 1 + 1)) >> body_of (attributes_at words keys ++ patterns_in (from 1 (trees_from words (i + 1 + 1)))) (trees_from words (i + 1 + 1))) (gives (plain annotated.behind)) draft) annotated.head
     ∙ ap (then_from (λ (_ : Unit {0}). body_of (attributes_at words keys ++ patterns_in (from 1 (trees_from words (i + 1 + 1)))) (trees_from words (i + 1 + 1))))
     (ap (λ (q : Place). attributes_of q (trees_from words (i + 1 + 1)) draft) (sym at) ∙ ap (λ (n : ℕ). attributes_of p (trees_from words n) draft) two ∙ e)) (refused draft)
   where

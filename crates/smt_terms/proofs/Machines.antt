@@ -105,18 +105,18 @@ module _ (words : List Word) where
       last bound = value head (with_bound scope (done ++ bound)) (trees_from words body)
 
       others : (v : Value) (r : Result (List Bound × Draft) SyntaxFault)
-          → then_from last (then_from (λ (bound : List Bound). made (bind (word_at words name).text v ∷ bound)) r)
+          → then_from last (then_from (λ (bound : List Bound). gives (bind (word_at words name).text v ∷ bound)) r)
           ≡ then_from (λ (bound : List Bound). value head (with_bound scope ((done ++ bind (word_at words name).text v ∷ []) ++ bound)) (trees_from words body)) r
       others v (Ok r) = ap (λ (bound : List Bound). value head (with_bound scope bound) (trees_from words body) r.1) (sym (append_assoc done (bind (word_at words name).text v ∷ []) r.0))
       others v (Err fault) = refl
 
       first : (r : Made)
-          → then_from last (then_from (λ (v : Value). bound_values scope (trees_from words behind) >>= λ (bound : List Bound). made (bind (word_at words name).text v ∷ bound)) r)
+          → then_from last (then_from (λ (v : Value). bound_values scope (trees_from words behind) >>= λ (bound : List Bound). gives (bind (word_at words name).text v ∷ bound)) r)
           ≡ then_from (λ (v : Value). binds words scope head (done ++ bind (word_at words name).text v ∷ []) behind body) r
       first (Ok r) = others r.0 (bound_values scope (trees_from words behind) r.1)
       first (Err fault) = refl
 
-  no_binding : (scope : Scope) (trees : Reading) → is_binding trees ≡ false → bound_values scope trees ≡ made []
+  no_binding : (scope : Scope) (trees : Reading) → is_binding trees ≡ false → bound_values scope trees ≡ gives []
   no_binding scope End none = refl
   no_binding scope (Token w trees) none = refl
   no_binding scope (Group p meaning End trees) none = refl

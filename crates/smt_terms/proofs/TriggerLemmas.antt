@@ -62,12 +62,12 @@ module _ (words : List Word) (scope : Scope) (i after : ℕ) (sees : SeesTree wo
   pub root_next : (so_far more : List ℕ) (root : ℕ) (draft later : Draft) → pattern_root (word_at words i).place (value (word_at words i).place scope (trees_from words i)) draft ≡ Ok (root, later) → more ≡ so_far ++ root ∷ []
       → behind_items more (pattern_roots scope (trees_from words after) later) ≡ behind_items so_far (pattern_roots scope (trees_from words i) draft)
   root_next so_far more root draft later is all = items_next so_far more root (pattern_roots scope (trees_from words after) later) all
-      ∙ sym (ap (behind_items so_far) (sees.roots scope draft ∙ ap (then_from (λ (r : ℕ). pattern_roots scope (trees_from words after) >>= λ (rs : List ℕ). made (r ∷ rs))) is))
+      ∙ sym (ap (behind_items so_far) (sees.roots scope draft ∙ ap (then_from (λ (r : ℕ). pattern_roots scope (trees_from words after) >>= λ (rs : List ℕ). gives (r ∷ rs))) is))
 
   pub root_refused : (stopped : Stop) (so_far : List ℕ) (draft : Draft) (whole : Result (List ℕ × Draft) SyntaxFault) → behind_items so_far (pattern_roots scope (trees_from words i) draft) ≡ whole
       → Refuses stopped (pattern_root (word_at words i).place (value (word_at words i).place scope (trees_from words i)) draft) → Refuses stopped whole
   root_refused stopped so_far draft whole same = refuses_all stopped _ whole
-      (λ fault e. sym same ∙ ap (behind_items so_far) (sees.roots scope draft ∙ ap (then_from (λ (r : ℕ). pattern_roots scope (trees_from words after) >>= λ (rs : List ℕ). made (r ∷ rs))) e))
+      (λ fault e. sym same ∙ ap (behind_items so_far) (sees.roots scope draft ∙ ap (then_from (λ (r : ℕ). pattern_roots scope (trees_from words after) >>= λ (rs : List ℕ). gives (r ∷ rs))) e))
 
 pub roots_end : (words : List Word) (scope : Scope) (i : ℕ) (draft : Draft) → trees_from words i ≡ End → pattern_roots scope (trees_from words i) draft ≡ Ok ([], draft)
 roots_end words scope i draft ends = ap (λ (t : Reading). pattern_roots scope t draft) ends

@@ -92,7 +92,7 @@ module _ (words : List Word) where
   -- What is left to do once a tree has its value, by the lists that are open, the innermost first, and the trees left
   -- in that.
   unfoldable pub finish : Scope → List Frame → Reading → Place → Value → Making Value
-  finish scope [] trees at v = made v
+  finish scope [] trees at v = gives v
   finish scope (f ∷ fs) trees at v = do
     u ← takes_by f.work scope f trees at v
     finish (outside f.work scope) fs (trees_from words f.after) f.paren u

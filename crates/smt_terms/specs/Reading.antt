@@ -34,7 +34,7 @@ first_place none (Group paren meaning inner trees) = paren.place
 
 -- a tree is one too many
 abbrev pub no_more : Refusal → Reading → Making (Unit {0})
-no_more refusal End = made tt
+no_more refusal End = gives tt
 no_more refusal (Token word trees) = refuse refusal word.place
 no_more refusal (Group paren meaning inner trees) = refuse refusal paren.place
 
@@ -43,7 +43,7 @@ abbrev pub at_most : ℕ → Reading → Making (Unit {0})
 at_most n trees = no_more BadForm (from n trees)
 
 abbrev pub at_least : ℕ → Place → Reading → Making (Unit {0})
-at_least zero missing trees = made tt
+at_least zero missing trees = gives tt
 at_least (suc n) missing End = bad_form missing
 at_least (suc n) missing (Token word trees) = at_least n missing trees
 at_least (suc n) missing (Group paren meaning inner trees) = at_least n missing trees
@@ -103,7 +103,7 @@ binding_name names paren inner = do
 
 -- the bindings of a let, a forall or a definition after those of these names: none has a name twice
 abbrev pub bindings_after : List (List ℕ) → Reading → Making (Unit {0})
-bindings_after names End = made tt
+bindings_after names End = gives tt
 bindings_after names (Token word trees) = bad_form word.place
 bindings_after names (Group paren meaning inner trees) = do
   name ← binding_name names paren inner
@@ -129,7 +129,7 @@ no_binding refusal trees = gives tt
 -- attributes from here on: keywords, and behind each of them perhaps one value, a token or a list; whether a value
 -- may come next
 abbrev pub attributes_after : Bool → Reading → Making (Unit {0})
-attributes_after valued End = made tt
+attributes_after valued End = gives tt
 attributes_after valued (Token word trees) = cond (is_keyword word.kind) (attributes_after true trees)
     (do
       must_hold (valued && not (is_wide word)) BadForm word.place

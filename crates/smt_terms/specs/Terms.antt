@@ -73,7 +73,7 @@ add_value at first others = do
 
 -- the values of all trees, from left to right
 abbrev pub values : Scope → Reading → Making (List Arg)
-values scope End = made []
+values scope End = gives []
 values scope (Token word trees) = add_value word.place (token_value scope word) (values scope trees)
 values scope (Group paren meaning inner trees) = add_value paren.place (meaning scope) (values scope trees)
 
@@ -176,7 +176,7 @@ add_root first others = do
 
 -- the roots of patterns, from left to right
 abbrev pub pattern_roots : Scope → Reading → Making (List ℕ)
-pattern_roots scope End = made []
+pattern_roots scope End = gives []
 pattern_roots scope (Token word trees) = add_root (pattern_root word.place (token_value scope word))
     (pattern_roots scope trees)
 pattern_roots scope (Group paren meaning inner trees) = add_root (pattern_root paren.place (meaning scope))

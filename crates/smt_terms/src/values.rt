@@ -67,7 +67,7 @@ pub(crate) fn check_truth(
     missing: Place,
     value: &Value,
 ) -> Result<(), Stop>
-    ensures { Checks result (want (sort_of value.now == 0) WrongSort (first_place missing (trees_from tree.now at))) }
+    ensures { Checks result (must_hold (sort_of value.now == 0) WrongSort (first_place missing (trees_from tree.now at))) }
 {
     if is_formula(value) {
         Ok(())

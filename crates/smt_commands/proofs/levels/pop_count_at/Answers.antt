@@ -1,7 +1,7 @@
 use Rattle.std.proofs.Common.{◌∙◌, nat_le, sym, ℕ, length}
 use Rattle.std.proofs.lemmas.Result.{err_from_is_err_and}
 use Rattle.smt_terms.specs.Cursor.{trees_from}
-use Rattle.smt_names.specs.Making.{made, want, ◌>>◌}
+use Rattle.smt_names.specs.Making.{gives, must_hold, ◌>>◌}
 use Rattle.smt_names.specs.declared.refusal.Refusal.TheVariants.{PopTooFar}
 use Rattle.smt_terms.specs.Reading.{first_place}
 use Rattle.smt_commands.specs.Commands.{level_form}
@@ -11,13 +11,13 @@ use Rattle.smt_commands.proofs.levels.pop_count_at.Goals as goal
 pub returns-in_err-count-clause-form : goal.returns-in_err-count-clause-form
 returns-in_err-count-clause-form c draft =
     let p = err_from_is_err_and c.from_residual.result c.from_residual.ensures.1 in rw (p.1, p.2)
-    (refused_first (λ (n : ℕ). want (nat_le n (length c.args.state.now.levels)) PopTooFar (first_place c.args.head (trees_from c.args.tree.now c.args.i)) >> made n) c.in_err-count.field-0.0 (level_form c.args.head (trees_from c.args.tree.now c.args.i) draft) (c.in_err-count.ensures draft))
+    (refused_first (λ (n : ℕ). must_hold (nat_le n (length c.args.state.now.levels)) PopTooFar (first_place c.args.head (trees_from c.args.tree.now c.args.i)) >> gives n) c.in_err-count.field-0.0 (level_form c.args.head (trees_from c.args.tree.now c.args.i) draft) (c.in_err-count.ensures draft))
 
 pub returns-then-are_open-clause-form : goal.returns-then-are_open-clause-form
-returns-then-are_open-clause-form c draft = made_after (λ (n : ℕ). want (nat_le n (length c.args.state.now.levels)) PopTooFar (first_place c.args.head (trees_from c.args.tree.now c.args.i)) >> made n) (level_form c.args.head (trees_from c.args.tree.now c.args.i) draft) c.in_ok-count.count draft (c.in_ok-count.ensures draft)
-    ∙ made_after (λ (_ : Unit {0}). made c.in_ok-count.count) (want (nat_le c.in_ok-count.count (length c.args.state.now.levels)) PopTooFar (first_place c.args.head (trees_from c.args.tree.now c.args.i)) draft) tt draft (wanted (nat_le c.in_ok-count.count (length c.args.state.now.levels)) PopTooFar (first_place c.args.head (trees_from c.args.tree.now c.args.i)) draft (sym c.are_open.ensures ∙ c.if-are_open.true))
+returns-then-are_open-clause-form c draft = made_after (λ (n : ℕ). must_hold (nat_le n (length c.args.state.now.levels)) PopTooFar (first_place c.args.head (trees_from c.args.tree.now c.args.i)) >> gives n) (level_form c.args.head (trees_from c.args.tree.now c.args.i) draft) c.in_ok-count.count draft (c.in_ok-count.ensures draft)
+    ∙ made_after (λ (_ : Unit {0}). gives c.in_ok-count.count) (must_hold (nat_le c.in_ok-count.count (length c.args.state.now.levels)) PopTooFar (first_place c.args.head (trees_from c.args.tree.now c.args.i)) draft) tt draft (wanted (nat_le c.in_ok-count.count (length c.args.state.now.levels)) PopTooFar (first_place c.args.head (trees_from c.args.tree.now c.args.i)) draft (sym c.are_open.ensures ∙ c.if-are_open.true))
 
 pub returns-else-are_open-clause-form : goal.returns-else-are_open-clause-form
-returns-else-are_open-clause-form c draft = refused_after (λ (n : ℕ). want (nat_le n (length c.args.state.now.levels)) PopTooFar (first_place c.args.head (trees_from c.args.tree.now c.args.i)) >> made n) c.at.result (level_form c.args.head (trees_from c.args.tree.now c.args.i) draft) c.in_ok-count.count draft (c.in_ok-count.ensures draft)
-    (refused_first (λ (_ : Unit {0}). made c.in_ok-count.count) c.at.result (want (nat_le c.in_ok-count.count (length c.args.state.now.levels)) PopTooFar (first_place c.args.head (trees_from c.args.tree.now c.args.i)) draft)
+returns-else-are_open-clause-form c draft = refused_after (λ (n : ℕ). must_hold (nat_le n (length c.args.state.now.levels)) PopTooFar (first_place c.args.head (trees_from c.args.tree.now c.args.i)) >> gives n) c.at.result (level_form c.args.head (trees_from c.args.tree.now c.args.i) draft) c.in_ok-count.count draft (c.in_ok-count.ensures draft)
+    (refused_first (λ (_ : Unit {0}). gives c.in_ok-count.count) c.at.result (must_hold (nat_le c.in_ok-count.count (length c.args.state.now.levels)) PopTooFar (first_place c.args.head (trees_from c.args.tree.now c.args.i)) draft)
     (unwanted c.at.result (nat_le c.in_ok-count.count (length c.args.state.now.levels)) PopTooFar c.first_place_at-place.result (first_place c.args.head (trees_from c.args.tree.now c.args.i)) draft c.at.ensures c.first_place_at-place.ensures (sym c.are_open.ensures ∙ c.if-are_open.false)))

@@ -1,7 +1,7 @@
 use Rattle.std.proofs.Common.{ℕ, ◌==◌, ap, ◌∙◌}
 use Rattle.std.proofs.lemmas.Result.{err_from_is_err_and}
 use Rattle.smt_names.specs.declared.refusal.Refusal.TheVariants.{NotInProfile}
-use Rattle.smt_names.specs.Making.{Making, want}
+use Rattle.smt_names.specs.Making.{Making, must_hold}
 use Rattle.smt_terms.specs.Reading.{Reading, first_place}
 use Rattle.smt_terms.specs.Cursor.{trees_from}
 use Rattle.smt_text.specs.declared.token.Place.{Place}
@@ -10,7 +10,7 @@ use Rattle.smt_commands.proofs.Steps.{refused_first, refused_after, made_after, 
 use Rattle.smt_commands.proofs.parts.check_no_arguments.Goals as goal
 
 abbrev rest : Place → Reading → ℕ → Making (Unit {0})
-rest head parts n = want (n == 0) NotInProfile (first_place head parts)
+rest head parts n = must_hold (n == 0) NotInProfile (first_place head parts)
 
 pub returns-in_err-count : goal.returns-in_err-count
 returns-in_err-count c draft =
