@@ -279,11 +279,7 @@ pub(crate) fn signature_at(
 ) -> Result<Signature, Stop>
     ensures { Checks result (signature_first state.now missing (trees_from tree.now i)) }
 {
-    match arguments_at(alloc, state, tree, i, missing) {
-        Err(stop) => Err(stop),
-        Ok(arguments) => match sort_at(alloc, state, tree, behind_one(tree, i), missing) {
-            Err(stop) => Err(stop),
-            Ok(sort) => Ok(Signature { arguments, sort }),
-        },
-    }
+    let arguments = arguments_at(alloc, state, tree, i, missing)?;
+    let sort = sort_at(alloc, state, tree, behind_one(tree, i), missing)?;
+    Ok(Signature { arguments, sort })
 }
