@@ -1,9 +1,13 @@
 -- Conjunctions and disjunctions of values.
-use Rattle.std.proofs.Common.{◌≡◌, ◌≢◌, ℕ, ◌⊎◌, List, [], ◌∷◌, ◌++◌, map, take, Contains, refl, sym, ap, subst, ◌∙◌}
-use Rattle.std.proofs.Common.{inl, inr, ⊎_elim, arith}
+use Rattle.std.proofs.Common.{◌≡◌, ◌≢◌, ℕ, ◌+◌, ◌<◌, List, [], ◌∷◌, ◌++◌, length, take, get_or, All, Contains}
+use Rattle.std.proofs.Common.{refl, sym, ap, ◌∙◌, ⊎_elim, arith}
+use Rattle.std.proofs.lemmas.List.{take_more, map-append}
+use Rattle.std.proofs.lemmas.List.Elements.{All-get_or}
+use Rattle.graph_terms.proofs.ListLaws.{get_or-any}
 use Rattle.formula_truth.specs.declared.truth.Truth.{Truth}
 use Rattle.formula_truth.specs.declared.truth.Truth.TheVariants.{Yes, No, Unset}
 use Rattle.formula_truth.specs.Truths.{and_of, or_of, all_of, some_of}
+use Rattle.formula_value.specs.ByParts.{values_of}
 use Rattle.formula_value.proofs.HoldsLaws.{contains_head, contains_later, contains_cases}
 
 and_assoc : (a b c : Truth) → and_of a (and_of b c) ≡ and_of (and_of a b) c
@@ -73,9 +77,10 @@ all_no (Unset ∷ xs) e = contains_later Unset No xs (all_no xs (rest (all_of xs
 pub all_unset : (xs : List Truth) → all_of xs ≡ Unset → Contains xs Unset × ((x : Truth) → Contains xs x → x ≢ No)
 all_unset [] e = cc
 all_unset (No ∷ xs) e = cc
-all_unset (Yes ∷ xs) e = let rest = all_unset xs e in
-    (contains_later Yes Unset xs rest.0,
-     λ x c. ⊎_elim (λ same no. cc) (rest.1 x) (contains_cases Yes x xs c))
+all_unset (Yes ∷ xs) e = let rest = all_unset xs e in (
+  contains_later Yes Unset xs rest.0,
+  λ x c. ⊎_elim (λ same no. cc) (rest.1 x) (contains_cases Yes x xs c),
+)
 all_unset (Unset ∷ xs) e =
     (contains_head Unset xs, λ x c. ⊎_elim (λ same no. cc) (not_no xs (rest (all_of xs) e) x) (contains_cases Unset x xs c))
   where
@@ -125,12 +130,14 @@ some_yes (Unset ∷ xs) e = contains_later Unset Yes xs (some_yes xs (rest (some
 pub some_unset : (xs : List Truth) → some_of xs ≡ Unset → Contains xs Unset × ((x : Truth) → Contains xs x → x ≢ Yes)
 some_unset [] e = cc
 some_unset (Yes ∷ xs) e = cc
-some_unset (No ∷ xs) e = let rest = some_unset xs e in
-    (contains_later No Unset xs rest.0,
-     λ x c. ⊎_elim (λ same yes. cc) (rest.1 x) (contains_cases No x xs c))
-some_unset (Unset ∷ xs) e =
-    (contains_head Unset xs,
-     λ x c. ⊎_elim (λ same yes. cc) (not_yes xs (rest (some_of xs) e) x) (contains_cases Unset x xs c))
+some_unset (No ∷ xs) e = let rest = some_unset xs e in (
+  contains_later No Unset xs rest.0,
+  λ x c. ⊎_elim (λ same yes. cc) (rest.1 x) (contains_cases No x xs c),
+)
+some_unset (Unset ∷ xs) e = (
+  contains_head Unset xs,
+  λ x c. ⊎_elim (λ same yes. cc) (not_yes xs (rest (some_of xs) e) x) (contains_cases Unset x xs c),
+)
   where
     rest : (b : Truth) → or_of Unset b ≡ Unset → b ≢ Yes
     rest No e f = cc
@@ -148,3 +155,33 @@ some_unset (Unset ∷ xs) e =
     not_yes [] h x c = absurd (omega (arith, c.1))
     not_yes (y ∷ ys) h x c = let both = no_rest y (some_of ys) h in
         ⊎_elim (λ same yes. both.0 (same ∙ yes)) (not_yes ys both.1 x) (contains_cases y x ys c)
+
+-- the values of a front of the parts with one part more
+values_of-more : (values : List Truth) (parts : List ℕ) → All (λ part. part < length values) parts → (i : ℕ) →
+    i < length parts → values_of values (take (i + 1) parts) ≡
+    values_of values (take i parts) ++ get_or values (get_or parts i 0) Yes ∷ []
+values_of-more values parts below i within =
+    ap (values_of values) (take_more parts i 0 within)
+    ∙ map-append (λ part. get_or values part Unset) (take i parts) (get_or parts i 0 ∷ [])
+    ∙ ap (λ x. values_of values (take i parts) ++ x ∷ [])
+    (get_or-any values (get_or parts i 0) Unset Yes (All-get_or (λ part. part < length values) parts i 0 within below))
+
+-- a conjunction of a front of the parts with one part more
+pub all_of-more : (values : List Truth) (parts : List ℕ) → All (λ part. part < length values) parts → (i : ℕ) →
+    i < length parts → (all next : Truth) → all ≡ all_of (values_of values (take i parts)) →
+    next ≡ and_of all (get_or values (get_or parts i 0) Yes) →
+    next ≡ all_of (values_of values (take (i + 1) parts))
+all_of-more values parts below i within all next is more =
+    more ∙ ap (λ a. and_of a (get_or values (get_or parts i 0) Yes)) is
+    ∙ sym (ap all_of (values_of-more values parts below i within)
+    ∙ all_of-push (values_of values (take i parts)) (get_or values (get_or parts i 0) Yes))
+
+-- a disjunction of a front of the parts with one part more
+pub some_of-more : (values : List Truth) (parts : List ℕ) → All (λ part. part < length values) parts → (i : ℕ) →
+    i < length parts → (some next : Truth) → some ≡ some_of (values_of values (take i parts)) →
+    next ≡ or_of some (get_or values (get_or parts i 0) Yes) →
+    next ≡ some_of (values_of values (take (i + 1) parts))
+some_of-more values parts below i within some next is more =
+    more ∙ ap (λ a. or_of a (get_or values (get_or parts i 0) Yes)) is
+    ∙ sym (ap some_of (values_of-more values parts below i within)
+    ∙ some_of-push (values_of values (take i parts)) (get_or values (get_or parts i 0) Yes))

@@ -1,6 +1,6 @@
 -- Formulas that hold, fail, or have a property everywhere.
-use Rattle.std.proofs.Common.{◌≡◌, ℕ, zero, suc, ◌<◌, ◌⊎◌, List, [], ◌∷◌, slice_get, Some, Contains, refl}
-use Rattle.std.proofs.Common.{sym, ap, subst, ◌∙◌, inl, inr, ⊎_elim, arith}
+use Rattle.std.proofs.Common.{◌≡◌, ℕ, ◌⊎◌, List, [], ◌∷◌, Contains, refl}
+use Rattle.std.proofs.Common.{sym, subst, ◌∙◌, inl, inr, ⊎_elim, arith}
 use Rattle.std.proofs.lemmas.Option.{same_Some}
 use Rattle.std.proofs.lemmas.List.Elements.{Contains-append_cases, Contains-append_right, Contains-push_cases}
 use Rattle.formula_table.specs.declared.node.Node.{Node}
@@ -21,7 +21,7 @@ module _ {X : Type 0} where
   pub contains_cases : (y x : X) (xs : List X) → Contains (y ∷ xs) x → (y ≡ x) ⊎ Contains xs x
   contains_cases y x xs c =
       ⊎_elim (λ one. ⊎_elim (λ none. absurd (omega (arith, none.1))) inl (Contains-push_cases [] y x one)) inr
-        (Contains-append_cases (y ∷ []) xs x c)
+      (Contains-append_cases (y ∷ []) xs x c)
 
   -- each element has the one property, or some element has the other
   pub each_or_some : (P Q : X → Type 0) (xs : List X) → ((x : X) → Contains xs x → P x ⊎ Q x) →
@@ -29,12 +29,12 @@ module _ {X : Type 0} where
   each_or_some P Q [] h = inl (λ x c. absurd (omega (arith, c.1)))
   each_or_some P Q (y ∷ xs) h =
       ⊎_elim
-        (λ here. ⊎_elim
-          (λ all. inl (λ x c. ⊎_elim (λ e. subst P e here) (all x) (contains_cases y x xs c)))
-          (λ one. inr (one.0, contains_later y one.0 xs one.1, one.2))
-          (each_or_some P Q xs (λ x c. h x (contains_later y x xs c))))
-        (λ not. inr (y, contains_head y xs, not))
-        (h y (contains_head y xs))
+      (λ here. ⊎_elim
+      (λ all. inl (λ x c. ⊎_elim (λ e. subst P e here) (all x) (contains_cases y x xs c)))
+      (λ one. inr (one.0, contains_later y one.0 xs one.1, one.2))
+      (each_or_some P Q xs (λ x c. h x (contains_later y x xs c))))
+      (λ not. inr (y, contains_head y xs, not))
+      (h y (contains_head y xs))
 
 -- a number has one node
 pub one_node : (nodes : List Node) (n : ℕ) {left right : Node} → HasNode nodes n left → HasNode nodes n right →
@@ -157,8 +157,8 @@ holds_or_fails (formulas.Everywhere.literal {n} {node} at h) =
     ⊎_elim (λ y. inl (formulas.Holds.literal at y)) (λ f. inr (formulas.Fails.literal at f)) h
 holds_or_fails {nodes} {no} {yes} (formulas.Everywhere.conjunction {n} {parts} at each) =
     ⊎_elim (λ all. inl (formulas.Holds.every at all)) (λ one. inr (formulas.Fails.some at one.1 one.2))
-      (each_or_some (Holds nodes yes) (Fails nodes no) parts (λ part c. holds_or_fails (each part c)))
+    (each_or_some (Holds nodes yes) (Fails nodes no) parts (λ part c. holds_or_fails (each part c)))
 holds_or_fails {nodes} {no} {yes} (formulas.Everywhere.disjunction {n} {parts} at each) =
     ⊎_elim (λ all. inr (formulas.Fails.every at all)) (λ one. inl (formulas.Holds.some at one.1 one.2))
-      (each_or_some (Fails nodes no) (Holds nodes yes) parts
-        (λ part c. ⊎_elim inr inl (holds_or_fails (each part c))))
+    (each_or_some (Fails nodes no) (Holds nodes yes) parts
+    (λ part c. ⊎_elim inr inl (holds_or_fails (each part c))))

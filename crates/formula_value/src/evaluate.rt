@@ -85,6 +85,7 @@ pub fn value<G: ClassGraph>(
     requires facts { AreFacts (length (terms_of (G.standing graph.now))) facts.now }
     ensures { IfOk result (HasValueIn (G.standing graph.now) facts.now table.now.nodes n) }
 {
+    let _stands = table.len();
     let values = first_values(alloc, table, n + 1, graph, facts)?;
     Ok(values[n as usize])
 }

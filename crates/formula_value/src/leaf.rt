@@ -52,7 +52,12 @@ fn are_kept_apart<G: ClassGraph>(graph: &G, facts: &Facts, left: u32, right: u32
 }
 
 /// What is known of an equation.
-pub(crate) fn equation_value<G: ClassGraph>(graph: &G, facts: &Facts, left: u32, right: u32) -> Truth
+pub(crate) fn equation_value<G: ClassGraph>(
+    graph: &G,
+    facts: &Facts,
+    left: u32,
+    right: u32,
+) -> Truth
     requires facts { AreFacts (length (terms_of (G.standing graph.now))) facts.now }
     requires left { left < length (terms_of (G.standing graph.now)) }
     requires right { right < length (terms_of (G.standing graph.now)) }
