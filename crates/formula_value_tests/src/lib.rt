@@ -1,0 +1,5 @@
+//! Tests of the public calls that give values of formulas.
+#![tactic(auto)]
+
+#[cfg(test)]
+mod tests;

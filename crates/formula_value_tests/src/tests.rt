@@ -1,0 +1,2 @@
+//! Values of the formulas of scripts.
+mod script;
