@@ -118,7 +118,13 @@ fn connectives_have_the_value_that_their_parts_give(rt: HostRuntime) -> Result<(
     let alloc = rt.alloc();
     let nothing = facts(alloc, &[], &[], &[])?;
     let stack = asserted(alloc, PROPOSITIONS)?;
-    expect(&rt, alloc, &stack, &nothing, &[Yes, No, Unset, Unset, Unset])?;
+    expect(
+        &rt,
+        alloc,
+        &stack,
+        &nothing,
+        &[Yes, No, Unset, Unset, Unset],
+    )?;
     let denied = asserted(alloc, DENIED)?;
     expect(&rt, alloc, &denied, &nothing, &[Yes, No, No, No, No, Yes])?;
     Ok(())
@@ -129,7 +135,13 @@ fn equations_and_foralls_have_the_value_that_the_facts_give(rt: HostRuntime) -> 
     let alloc = rt.alloc();
     let stack = asserted(alloc, EQUATIONS)?;
     let nothing = facts(alloc, &[], &[], &[])?;
-    expect(&rt, alloc, &stack, &nothing, &[Yes, Unset, Unset, Unset, Unset])?;
+    expect(
+        &rt,
+        alloc,
+        &stack,
+        &nothing,
+        &[Yes, Unset, Unset, Unset, Unset],
+    )?;
     let apart = facts(alloc, &[2], &[4], &[0])?;
     expect(&rt, alloc, &stack, &apart, &[Yes, No, Yes, Yes, Yes])?;
     let turned = facts(alloc, &[4], &[3], &[1])?;
