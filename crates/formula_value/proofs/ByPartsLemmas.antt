@@ -37,8 +37,7 @@ module _ (known : Known) (live : List ℕ) (nodes : List Node) (values : List Tr
 
   -- a value among those of the parts is that of a part
   part_with : (parts : List ℕ) (truth : Truth) → All (λ part. part < length values) parts →
-      Contains (values_of values parts) truth →
-      (part : ℕ) × Contains parts part × HasValue known live nodes part truth
+      Contains (values_of values parts) truth → (part : ℕ) × Contains parts part × HasValue known live nodes part truth
   part_with [] truth below c = absurd (omega (arith, c.1))
   part_with (part ∷ parts) truth below c =
       ⊎_elim
@@ -130,8 +129,7 @@ module _ (known : Known) (live : List ℕ) (nodes : List Node) (values : List Tr
   next_value node truth has below h n value at =
       ⊎_elim (λ old. are n value old)
       (λ new. subst (λ v. HasValue known live nodes n v) (sym new.1)
-      (subst (λ k. HasValue known live nodes k truth) (sym new.0)
-      (node_value (length values) node truth has below h)))
+      (subst (λ k. HasValue known live nodes k truth) (sym new.0) (node_value (length values) node truth has below h)))
       (push_cases values truth n value at)
 
 -- the first values with that of the next node

@@ -81,10 +81,8 @@ all_unset (Yes ∷ xs) e = let rest = all_unset xs e in (
   contains_later Yes Unset xs rest.0,
   λ x c. ⊎_elim (λ same no. cc) (rest.1 x) (contains_cases Yes x xs c),
 )
-all_unset (Unset ∷ xs) e = (
-  contains_head Unset xs,
-  λ x c. ⊎_elim (λ same no. cc) (not_no xs (rest (all_of xs) e) x) (contains_cases Unset x xs c),
-)
+all_unset (Unset ∷ xs) e =
+    (contains_head Unset xs, λ x c. ⊎_elim (λ same no. cc) (not_no xs (rest (all_of xs) e) x) (contains_cases Unset x xs c))
   where
     rest : (b : Truth) → and_of Unset b ≡ Unset → b ≢ No
     rest No e f = cc
@@ -166,8 +164,7 @@ values_of-more values parts below i within =
     ap (values_of values) (take_more parts i 0 within)
     ∙ map-append (λ part. get_or values part Unset) (take i parts) (get_or parts i 0 ∷ [])
     ∙ ap (λ x. values_of values (take i parts) ++ x ∷ [])
-    (get_or-any values (get_or parts i 0) Unset Yes
-    (All-get_or (λ part. part < length values) parts i 0 within below))
+    (get_or-any values (get_or parts i 0) Unset Yes (All-get_or (λ part. part < length values) parts i 0 within below))
 
 -- a conjunction of a front of the parts with one part more
 pub all_of-more : (values : List Truth) (parts : List ℕ) → All (λ part. part < length values) parts → (i : ℕ) →

@@ -71,8 +71,8 @@ fn first_values<G: ClassGraph>(
     Ok(values)
 }
 
-/// What is known of the formula with this number, by the graph and the facts. Each node up to this one is evaluated
-/// once, and its value kept; `Memory` comes where there is no room for these values.
+/// What is known of the formula with this number, by the graph and the facts. It evaluates the nodes up to this one, each
+/// once, and keeps a value for each; `Memory` comes where there is no room for these.
 pub fn value<G: ClassGraph>(
     alloc: Global,
     table: &FormulaTable,
@@ -90,8 +90,8 @@ pub fn value<G: ClassGraph>(
     Ok(values[n as usize])
 }
 
-/// What is known of each formula of the table, by number, by the graph and the facts. `Memory` comes where there is no
-/// room for the values.
+/// What is known of each formula of the table, by number, by the graph and the facts. `Memory` comes where there is no room
+/// for the values.
 pub fn values<G: ClassGraph>(
     alloc: Global,
     table: &FormulaTable,

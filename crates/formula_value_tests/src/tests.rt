@@ -1,2 +1,0 @@
-//! Values of the formulas of scripts.
-mod script;
