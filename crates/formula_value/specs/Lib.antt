@@ -1,0 +1,4 @@
+pub mod Holds
+pub mod Value
+pub mod ByParts
+pub mod Laws
