@@ -9,10 +9,7 @@ use Rattle.graph_terms.specs.declared.term_row.TermRow.{TermRow}
 use Rattle.graph_terms.specs.Terms.{term_row, HasRow, IsTable}
 use Rattle.graph_meaning.specs.Lawful.{EndsBelow}
 use Rattle.graph_meaning.specs.Same.{Derives, same_term, turned, joined, merged, congruent, DerivesEach, none, more}
-
--- it holds, or it doesn't
-abbrev pub Decided : Type 0 → Type 0
-Decided P = P ⊎ (P → ⊥)
+use Rattle.match_steps.specs.StepLaw.{Decided}
 
 -- at one place below the bound the first, or at each the second
 pub all_or : {A : Type 0} (B : ℕ → Type 0) (n : ℕ) → ((k : ℕ) → k < n → A ⊎ B k) → A ⊎ ((k : ℕ) → k < n → B k)

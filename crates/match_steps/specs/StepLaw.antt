@@ -9,6 +9,10 @@ use Rattle.graph_meaning.specs.Match.{IsItemMatch}
 use Rattle.graph_meaning.specs.declared.claim.Claim.{Claim}
 use Rattle.graph_meaning.specs.Justified.{Justified}
 
+-- it holds, or it does not
+abbrev pub Decided : Type 0 → Type 0
+Decided P = P ⊎ (P → ⊥)
+
 -- the tuples are the same, place by place
 abbrev pub AreSame : List Done → List ℕ → List ℕ → Type 0
 AreSame standing xs ys = DerivesEach (terms_of standing) (merges_of standing) xs ys
