@@ -1,6 +1,6 @@
 -- Claims of keys, one by one.
-use Rattle.std.proofs.Common.{◌≡◌, ◌≢◌, ℕ, ◌<◌, List, length, map, slice_get, slice_index_or, Some, Contains, AllPairs}
-use Rattle.std.proofs.Common.{sym, ap, ap₂, subst, ◌∙◌, arith}
+use Rattle.std.proofs.Common.{◌≡◌, ◌≢◌, ℕ, List, slice_get, slice_index_or, Some, Contains, AllPairs}
+use Rattle.std.proofs.Common.{sym, ap, ◌∙◌, arith}
 use Rattle.std.specs.Option.{option_map}
 use Rattle.std.proofs.lemmas.List.{length-map, map-append}
 use Rattle.std.proofs.lemmas.Option.{same_Some, slice_get-map, slice_get_within, get_or_from_slice_get}
@@ -27,8 +27,7 @@ module _ (keys : List ClaimKey) where
   key_of claim c =
       let at = place_from_Contains (claims_of keys) claim c in
       let below = slice_get_within (claims_of keys) at.0 claim at.1 in
-      let there = element_at keys at.0 (omega (arith, below, length-map keys claim_of)) in
-      (
+      let there = element_at keys at.0 (omega (arith, below, length-map keys claim_of)) in (
         there.0,
         Contains-slice_get keys at.0 there.0 there.1,
         same_Some claim (claim_of there.0) (sym at.1 ∙ claim_at at.0 there.0 there.1),

@@ -4,10 +4,13 @@ use Rattle.std.proofs.lemmas.Option.{none-some, slice_get_within}
 use Rattle.graph_meaning.specs.declared.done.Done.{Done}
 use Rattle.graph_trigger.specs.declared.trigger.Trigger.{Trigger}
 use Rattle.graph_meaning.specs.declared.claim.Claim.{Claim}
+use Rattle.graph_meaning.specs.Justified as why
+use Rattle.graph_meaning.specs.Justified.{JoinedSince}
+use Rattle.graph_meaning.specs.Standing.{triggers_of}
 use Rattle.match_paths.specs.Inverted.{LeadsUp}
 use Rattle.match_paths.proofs.InvertedLaws.{leads_up, leads_through}
 use Rattle.match_paths.specs.Climbing.{entry_of, FindsAll}
-use Rattle.match_paths.specs.Paths.{Paths, Serves, AreThrough}
+use Rattle.match_paths.specs.Paths.{Paths, Serves, AreThrough, AreJustified}
 
 pub found_through : (standing : List Done) (paths : Paths) (triggers : List Trigger) (class : ℕ) (claims : List Claim) → Serves paths triggers → FindsAll standing paths.trees paths.list class claims → AreThrough standing triggers class claims
 found_through standing paths triggers class claims serves finds claim = (
@@ -20,6 +23,12 @@ found_through standing paths triggers class claims serves finds claim = (
       let of = serves.all claim.trigger claim.start through.0 leads.begin leads.links through.1 leads.inverted in
       (finds claim).1 (record { number = of.0; end = of.1; is = of.2; ends = of.3; begin = leads.begin; links = leads.links; way = of.4; holds = leads.holds; climbs = leads.climbs }),
 )
+
+-- a claim through a class that was joined since is justified since
+pub through_justified : (before now : List Done) (left right : ℕ) (claims : List Claim) → JoinedSince before now left right → AreThrough now (triggers_of now) left claims → AreJustified before now claims
+through_justified before now left right claims since through claim has =
+    let of = (through claim).0 has in
+    why.joined {left = left} {right = right} of.1 since of.2
 
 -- without entries and triggers there is nothing to serve
 pub serves_none : (paths : Paths) → length paths.list.entries ≡ 0 → length paths.list.ends ≡ 0 → paths.triggers ≡ 0 → Serves paths []

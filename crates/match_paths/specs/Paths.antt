@@ -2,7 +2,7 @@
 use Rattle.std.specs.Prelude.{◌≡◌, ◌↔◌, ℕ, List, ◌∷◌, length, slice_get, Some, Contains}
 use Rattle.graph_meaning.specs.declared.done.Done.{Done}
 use Rattle.graph_trigger.specs.declared.trigger.Trigger.{Trigger}
-use Rattle.graph_meaning.specs.Justified.{Through}
+use Rattle.graph_meaning.specs.Justified.{Justified, Through}
 use Rattle.graph_meaning.specs.declared.claim.Claim.{Claim}
 use Rattle.match_paths.specs.declared.entry.Entry.{Entry}
 use Rattle.match_paths.specs.declared.link.Link.{Link}
@@ -40,3 +40,7 @@ IsThrough standing triggers class claim = (trigger : Trigger) × (slice_get trig
 abbrev pub AreThrough : List Done → List Trigger → ℕ → List Claim → Type 0
 AreThrough standing triggers class claims = (claim : Claim) → Contains claims claim ↔
     IsThrough standing triggers class claim
+
+-- each of the claims is justified since the earlier list
+abbrev pub AreJustified : List Done → List Done → List Claim → Type 0
+AreJustified before now claims = (claim : Claim) → Contains claims claim → Justified before now claim

@@ -4,10 +4,10 @@ ghost use Rattle.match_paths.specs.Climbing.{PutsIn};
 
 use crate::claim_key::ClaimKey;
 use graph_meaning::Claim;
+use graph_terms::Memory;
 use indexmap::IndexSet;
 use std::alloc::Global;
 use std::marker::Model;
-use graph_terms::Memory;
 
 /// Claims in the order in which they came, each once. Contracts see a list.
 #[derive(Drop)]
@@ -35,7 +35,7 @@ impl Claims {
         }
     }
 
-    /// The number of claims.
+    /// How many claims there are.
     pub fn len(&self) -> usize
         ensures value { result ≡ length self.now }
         ensures each_once { AllPairs (λ a b. a ≢ b) self.now }
@@ -43,7 +43,7 @@ impl Claims {
         self.keys.len()
     }
 
-    /// The claim at the place.
+    /// The claim at the place `i`, counted from 0. The caller sees that it is below `len()`.
     pub fn at(&self, i: usize) -> Claim
         requires { i < length self.now }
         ensures { slice_get self.now i ≡ Some result }
@@ -58,7 +58,7 @@ impl Claims {
         }
     }
 
-    /// Puts a claim last, where it isn't there.
+    /// Puts a claim last, where it is not there yet. `Memory` comes where memory is refused.
     pub fn put(&mut self, claim: Claim) -> Result<(), Memory>
         ensures { OnOk result (PutsIn self.old self.new claim) }
     {

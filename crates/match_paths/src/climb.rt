@@ -11,9 +11,9 @@ use crate::node_table::NodeTable;
 use crate::step::Step;
 use crate::task::Task;
 use crate::task_list::TaskList;
-use std::alloc::Global;
 use graph_meaning::{Claim, ClassGraph};
 use graph_terms::Memory;
+use std::alloc::Global;
 
 /// Whether the class has what a path begins with.
 fn begins<G: ClassGraph>(graph: &G, link: Link, class: u32) -> bool

@@ -1,15 +1,15 @@
-//! Entries by number, with the nodes at which their codes end.
+//! Entries by number, with the nodes at which their ways end.
 ghost use Rattle.std.specs.Prelude.{◌≡◌, ◌-◌, ◌<◌, ◌≤◌, length, slice_get, Some, OnOk, OnErr};
 ghost use Rattle.graph_meaning.specs.Questions.{AreAll};
 ghost use Rattle.match_paths.specs.EntryList.{list_front, with_entry};
 
 use crate::entry::Entry;
 use crate::index::Index;
+use graph_terms::Memory;
 use std::alloc::Global;
 use std::marker::Model;
-use graph_terms::Memory;
 
-/// Entries by number, with the nodes at which their codes end.
+/// Entries by number, with the nodes at which their ways end.
 #[derive(Debug, Drop)]
 pub struct EntryTable {
     entries: Vec<Entry>,
@@ -56,7 +56,7 @@ impl EntryTable {
         self.entries[number as usize]
     }
 
-    /// The node at which the code of the entry ends.
+    /// The node at which the way of the entry ends.
     pub fn end(&self, number: u32) -> u32
         requires { number < length self.now.entries }
         ensures { slice_get self.now.ends number ≡ Some result }

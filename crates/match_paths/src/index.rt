@@ -4,9 +4,9 @@ ghost use Rattle.graph_meaning.specs.Questions.{AreAll};
 ghost use Rattle.match_paths.specs.Index.{GrewEmpty};
 
 use crate::number_list::NumberList;
+use graph_terms::Memory;
 use std::alloc::Global;
 use std::marker::Model;
-use graph_terms::Memory;
 
 /// A list of keys, with the numbers of the places at which each key stands.
 #[derive(Debug, Drop)]

@@ -2,9 +2,9 @@
 ghost use Rattle.std.specs.Prelude.{◌≡◌, ◌↔◌, [], ◌∷◌, length, slice_get, IfOk, IsTrue};
 
 use crate::link::Link;
+use graph_terms::Memory;
 use std::alloc::Global;
 use std::marker::Model;
-use graph_terms::Memory;
 
 /// Links in order.
 #[derive(Debug, Drop)]

@@ -7,9 +7,9 @@ ghost use Rattle.match_paths.specs.NodesInside.{above_of, Extends, Leads, Puts};
 
 use crate::index::Index;
 use crate::link::Link;
+use graph_terms::Memory;
 use std::alloc::Global;
 use std::marker::Model;
-use graph_terms::Memory;
 
 /// Nodes by number. What begins alike is shared: two roots, or two nodes next after one, differ.
 #[derive(Debug, Drop)]
@@ -81,7 +81,7 @@ impl NodeTable {
         requires { node < length self.now.links }
         ensures { slice_get self.now.above node ≡ Some result }
     {
-        let _instrs = &self.links;
+        let _links = &self.links;
         let key = self.after.key(node);
         if key == 0 {
             return None;
@@ -94,7 +94,7 @@ impl NodeTable {
         requires { IfSome at (λ node. node < length self.now.links) }
         ensures { AreAll (λ n. slice_get self.now.above n ≡ Some at) result.now }
     {
-        let _instrs = &self.links;
+        let _links = &self.links;
         self.after.places(key_of(at))
     }
 

@@ -1,10 +1,10 @@
 //! A short list of numbers that grows and shrinks at its end.
 ghost use Rattle.std.specs.Prelude.{◌≡◌, ◌-◌, ◌++◌, [], ◌∷◌, length, take, OnOk, OnErr};
 
+use graph_terms::Memory;
 use smallvec::SmallVec;
 use std::alloc::Global;
 use std::marker::Model;
-use graph_terms::Memory;
 
 /// A list of numbers. Up to four are kept in the value itself.
 #[derive(Debug, Drop)]

@@ -5,9 +5,9 @@ ghost use Rattle.match_paths.specs.Occurrences.{part_at, AreOccurrences, ArePart
 use crate::link::Link;
 use crate::link_list::LinkList;
 use crate::occurrence::Occurrence;
-use std::alloc::Global;
 use graph_terms::{Memory, Numbers};
 use graph_trigger::{PatternRow, Trigger};
+use std::alloc::Global;
 
 /// The place with the number.
 pub fn occurrence_at(all: &[Occurrence], i: usize) -> &Occurrence

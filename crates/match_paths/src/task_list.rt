@@ -3,10 +3,10 @@ ghost use Rattle.std.specs.Prelude.{◌≡◌, ◌<◌, [], length, slice_get, S
 ghost use Rattle.match_paths.specs.Climbing.{PutsIn};
 
 use crate::task::Task;
+use graph_terms::Memory;
 use indexmap::IndexSet;
 use std::alloc::Global;
 use std::marker::Model;
-use graph_terms::Memory;
 
 /// Tasks in the order in which they came, each once. Contracts see a list.
 #[derive(Drop)]

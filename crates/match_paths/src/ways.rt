@@ -12,9 +12,9 @@ use crate::link_list::LinkList;
 use crate::node_table::NodeTable;
 use crate::occurrence::Occurrence;
 use crate::occurrences::occurrence_at;
-use std::alloc::Global;
 use graph_terms::Memory;
 use graph_trigger::{PatternRow, Trigger};
+use std::alloc::Global;
 
 /// Puts an entry last, and its way into the trees.
 fn add_way(
