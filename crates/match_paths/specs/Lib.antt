@@ -1,0 +1,12 @@
+pub mod Inverted
+pub mod Trees
+pub mod EntryList
+pub mod Paths
+pub mod Index
+pub mod NodesInside
+pub mod Marks
+pub mod PathsInside
+pub mod Occurrences
+pub mod Claims
+pub mod Climbing
+pub mod Wants

@@ -1,0 +1,24 @@
+//! Inverted paths: from a class that was joined up to the roots whose patterns may match anew.
+#![tactic(auto)]
+
+mod claim_key;
+pub mod claims;
+mod climb;
+mod entry;
+mod entry_table;
+mod index;
+mod link;
+mod link_list;
+mod mark;
+mod node_table;
+mod number_list;
+mod occurrence;
+mod occurrences;
+pub mod path_index;
+mod step;
+mod task;
+mod task_list;
+mod ways;
+
+pub use claims::Claims;
+pub use path_index::PathIndex;

@@ -1,0 +1,4 @@
+//! What operations do to the matches.
+#![tactic(auto)]
+
+pub mod laws;
