@@ -1,0 +1,5 @@
+//! The index of inverted paths over a graph.
+#![tactic(auto)]
+
+#[cfg(test)]
+mod tests;
