@@ -22,7 +22,7 @@ loop-tree-init g c =
     let written = g.O.Sink.written c.args.out.now in
     record {
       reached = subst (λ (now : RunState). Reached task limits left left written written now (ahead c.args.reader.now))
-          (sym (ap (λ (s : State). run_state s c.args.stack.now) c.new-session.new.ensures ∙ ap (λ (s : Assertions). run_state (at_start limits) s) c.requires.stack))
+          (sym (ap (λ (s : State). run_state s c.args.stack.now) c.requires.session ∙ ap (λ (s : Assertions). run_state (at_start limits) s) c.requires.stack))
           (subst (λ (reader : Reading). Reached task limits left left written written (opening limits) (ahead reader)) (sym c.requires.reader)
           (reached_start c.session_law.ensures.keeps task limits left written (c.session_law.ensures.starts limits)));
       no_fault = ap (λ (r : Reading). r.fault) c.requires.reader;
