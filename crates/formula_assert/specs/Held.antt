@@ -34,6 +34,17 @@ operations_of formulas (And parts) = []
 operations_of formulas (Or parts) = []
 operations_of formulas (Forall forall) = map Live (triggers_at formulas.foralls forall)
 
+-- the operations that refute a literal: the terms of an equation are kept apart and those of a disequation merged, and
+-- an atom is merged with the other truth; for the other nodes there are none
+abbrev pub refuting_of : Node → List Op
+refuting_of (Equal true left right) = Differ left right ∷ []
+refuting_of (Equal false left right) = Merge left right ∷ []
+refuting_of (Atom true term) = Merge term 1 ∷ []
+refuting_of (Atom false term) = Merge term 0 ∷ []
+refuting_of (And parts) = []
+refuting_of (Or parts) = []
+refuting_of (Forall forall) = []
+
 -- the nodes that hold where a node does: the parts of a conjunction
 abbrev pub conjuncts_of : Node → List ℕ
 conjuncts_of (Equal positive left right) = []

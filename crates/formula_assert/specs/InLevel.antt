@@ -31,6 +31,12 @@ pub record KeepsLevels (before after : Assertions) : Type 0 where
   pub formulas_grow : GrowsTable before.formulas after.formulas
   pub saved_are : after.saved ≡ before.saved
 
+-- more is held, over the same formulas and in the same levels
+pub record HoldsMoreOver (before after : Assertions) : Type 0 where
+  pub holds_more : HoldsMore (held_of before) (held_of after)
+  pub formulas_are : after.formulas ≡ before.formulas
+  pub saved_are : after.saved ≡ before.saved
+
 -- the same stands, though perhaps more operations were done
 pub record StandAlike (one other : Assertions) : Type 0 where
   pub standing : other.graph.standing ≡ one.graph.standing

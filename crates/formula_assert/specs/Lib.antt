@@ -3,7 +3,9 @@ pub mod Asserts
 pub mod Assertions
 pub mod Tables
 pub mod AssertFormula
+pub mod Exactly
 pub mod InLevel
+pub mod Mark
 pub mod Stands
 pub mod WorkList
 pub mod StackInside

@@ -5,7 +5,8 @@ ghost use Rattle.graph_trigger.specs.Trigger.{IsValid};
 ghost use Rattle.graph_meaning.specs.State.{replay, state_after};
 ghost use Rattle.graph_meaning.specs.Standing.{terms_of};
 ghost use Rattle.formula_table.specs.Formulas.{IsFormulaTable, NodesStand};
-ghost use Rattle.formula_assert.specs.Held.{held, operations_of, conjuncts_of};
+ghost use Rattle.formula_table.specs.Node.{terms_in};
+ghost use Rattle.formula_assert.specs.Held.{held, operations_of, refuting_of, conjuncts_of};
 ghost use Rattle.formula_assert.specs.Asserts.{Asserts};
 ghost use Rattle.formula_assert.specs.InLevel.{GrowsGraph, HoldsMore};
 ghost use Rattle.formula_assert.specs.WorkList.{AssertsNext};
@@ -110,6 +111,24 @@ fn do_operations<G: AssertionGraph>(
         Node::Atom { positive, term } => assert_truth(graph, *positive, *term),
         Node::And { .. } | Node::Or { .. } => Ok(()),
         Node::Forall { forall } => make_live(graph, formulas.triggers_of(*forall)),
+    }
+}
+
+/// Does the operations that refute a node, where it is a literal.
+pub(crate) fn refute_node<G: AssertionGraph>(graph: &mut G, node: &Node) -> Result<(), Memory>
+    requires { All (λ term. term < length (terms_of (G.state graph.old).standing)) (terms_in node.now) }
+    ensures ok { OnOk result (G.state graph.new ≡ replay (G.state graph.old) (refuting_of node.now)) }
+    ensures err { OnErr result (G.state graph.new ≡ G.state graph.old) }
+    ensures keeps { G.kept graph.old graph.new }
+{
+    match node {
+        Node::Equal {
+            positive,
+            left,
+            right,
+        } => assert_equation(graph, !*positive, *left, *right),
+        Node::Atom { positive, term } => assert_truth(graph, !*positive, *term),
+        Node::And { .. } | Node::Or { .. } | Node::Forall { .. } => Ok(()),
     }
 }
 

@@ -1,14 +1,20 @@
 //! The standing assertions.
-ghost use Rattle.std.specs.Prelude.{◌≡◌, ◌<◌, ◌≤◌, ◌++◌, ◌∷◌, [], length, IfOk, IfErr, OnOk, OnErr};
-ghost use Rattle.formula_assert.specs.Assertions.{no_assertions, pushed, popped};
+ghost use Rattle.std.specs.Prelude.{◌≡◌, ◌<◌, ◌≤◌, ◌++◌, ◌∷◌, [], ℕ, length, slice_get, Some, Contains, ◌↔◌, IsTrue, IfOk, IfErr, OnOk, OnErr};
+ghost use Rattle.formula_assert.specs.Assertions.{Assertions, held_of, no_assertions, pushed, popped};
 ghost use Rattle.formula_assert.specs.AssertFormula.{AssertsFormula, StopsAssert};
-ghost use Rattle.formula_assert.specs.InLevel.{KeepsLevels};
+ghost use Rattle.formula_table.specs.declared.node.Node.{Node as SpecNode};
+ghost use Rattle.graph_meaning.specs.State.{replay};
+ghost use Rattle.formula_assert.specs.Held.{held, refuting_of};
+ghost use Rattle.formula_assert.specs.Asserts.{Asserts};
+ghost use Rattle.formula_assert.specs.InLevel.{KeepsLevels, HoldsMoreOver};
+ghost use Rattle.formula_assert.specs.Mark.{IsMark};
 ghost use Rattle.formula_assert.specs.Stands.{AreAssertions};
 
-use crate::assert_nodes::assert_node;
+use crate::assert_nodes::{assert_node, refute_node};
 use crate::asserted_nodes::AssertedNodes;
 use crate::assertion_graph::AssertionGraph;
 use crate::level::Level;
+use crate::mark::Mark;
 use crate::take_back::take_back_to;
 use formula_draft::Formula;
 use formula_table::{EnterFault, FormulaTable};
@@ -116,6 +122,60 @@ impl AssertionStack {
                 Err(EnterFault::Memory)
             }
         }
+    }
+
+    /// Whether the node is asserted.
+    pub fn is_asserted(&self, n: u32) -> bool
+        ensures { IsTrue result ↔ Contains self.now.asserted n }
+    {
+        self.asserted.has(n)
+    }
+
+    /// Asserts a node that was entered, with all that it stands for. After want of memory a part of it may stand, which goes
+    /// where a mark is gone back to.
+    pub fn assert_entered(&mut self, n: u32) -> Result<(), Memory>
+        requires { n < length self.old.formulas.nodes }
+        ensures ok { OnOk result (Asserts self.old.formulas n (held_of self.old) (held_of self.new)) }
+        ensures more { HoldsMoreOver self.old self.new }
+    {
+        assert_node(
+            self.alloc,
+            &mut self.graph,
+            &self.formulas,
+            &mut self.asserted,
+            n,
+        )
+    }
+
+    /// Does what refutes a literal that was entered: keeps the terms of an equation apart, merges those of a disequation, or
+    /// merges the term of an atom with the other truth. For any other node it does nothing. Without memory all is as before.
+    pub fn refute(&mut self, n: u32) -> Result<(), Memory>
+        requires { n < length self.old.formulas.nodes }
+        ensures ok { OnOk result ((node : SpecNode) → slice_get self.old.formulas.nodes n ≡ Some node → held_of self.new ≡ held (replay self.old.graph (refuting_of node)) self.old.asserted) }
+        ensures err { OnErr result (self.new ≡ self.old) }
+        ensures more { HoldsMoreOver self.old self.new }
+    {
+        let _nodes = self.formulas.len();
+        refute_node(&mut self.graph, self.formulas.node(n))
+    }
+
+    /// What is held now, to go back to. Takes no memory.
+    pub fn mark(&self) -> Mark
+        ensures { IsMark self.now result }
+    {
+        Mark {
+            version: self.graph.version(),
+            asserted: self.asserted.len(),
+        }
+    }
+
+    /// Goes back to what was held at a mark, over the same formulas and in the same levels. Takes no memory.
+    pub fn back_to(&mut self, mark: Mark)
+        requires { (before : Assertions) × IsMark before mark × HoldsMoreOver before self.old }
+        ensures { (before : Assertions) → IsMark before mark → HoldsMoreOver before self.old → self.new ≡ before }
+    {
+        take_back_to(&mut self.graph, mark.version);
+        self.asserted.keep_first(mark.asserted);
     }
 
     /// Opens a level. Without memory all is as before.

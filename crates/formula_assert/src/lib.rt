@@ -7,7 +7,9 @@ pub mod assertion_graph;
 pub mod assertion_stack;
 pub mod laws;
 mod level;
+pub mod mark;
 mod take_back;
 
 pub use assertion_graph::AssertionGraph;
 pub use assertion_stack::AssertionStack;
+pub use mark::Mark;

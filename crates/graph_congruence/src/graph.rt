@@ -5,7 +5,7 @@ ghost use Rattle.std.specs.Option.{option_copied};
 ghost use Rattle.graph_meaning.specs.declared.op.Op.{Op as SpecOp};
 ghost use Rattle.graph_meaning.specs.declared.op.Op.TheVariants.{Add as AddOp, Merge as MergeOp, Differ as DifferOp, Live as LiveOp, Push as PushOp, Pop as PopOp};
 ghost use Rattle.graph_meaning.specs.Lawful.{Allows, AllowsRow, AreBelow};
-ghost use Rattle.graph_meaning.specs.Standing.{is_push, terms_of, levels_of, differs_added, triggers_added};
+ghost use Rattle.graph_meaning.specs.Standing.{is_push, terms_of, levels_of, differs_of, differs_added, triggers_added};
 ghost use Rattle.graph_meaning.specs.State.{GraphState, first_state, state_after, table_of, IsFullFor};
 ghost use Rattle.graph_terms.specs.Terms.{most_args, term_row, IsFull};
 ghost use Rattle.graph_trigger.specs.Trigger.{IsValid};
@@ -340,6 +340,13 @@ impl Graph {
             }
         }
         None
+    }
+
+    /// The ends of each disequation that stands, in order. Takes no memory.
+    pub fn differences(&self) -> &[(u32, u32)]
+        ensures { result.now ≡ differs_of self.now.standing }
+    {
+        &self.apart[1..]
     }
 
     /// Whether the row is new, and its few arguments are terms.

@@ -4,17 +4,18 @@ ghost use Rattle.graph_meaning.specs.declared.op.Op.{Op as SpecOp};
 ghost use Rattle.graph_meaning.specs.declared.op.Op.TheVariants.{Live as LiveOp, Pop as PopOp};
 ghost use Rattle.graph_trigger.specs.declared.trigger.Trigger.{Trigger};
 ghost use Rattle.graph_meaning.specs.Lawful.{Allows};
-ghost use Rattle.graph_meaning.specs.Standing.{terms_of, triggers_of, levels_of};
+ghost use Rattle.graph_meaning.specs.Standing.{terms_of, differs_of, triggers_of, levels_of};
 ghost use Rattle.graph_meaning.specs.State.{GraphState, first_state, state_after, table_of, IsFullFor};
 ghost use Rattle.graph_terms.specs.Terms.{term_row};
 ghost use Rattle.graph_terms.specs.TermEntry.{AddGrows, AddFails};
+ghost use Rattle.graph_congruence.specs.Clash.{IsClash};
 ghost use Rattle.graph_congruence.specs.Operations.{CanTakeBack, taken_back};
 ghost use Rattle.match_graph.specs.AllMatches.{AreAllMatches};
 ghost use Rattle.match_graph.specs.GraphTerms.{with_terms};
 ghost use Rattle.graph_trigger.specs.Trigger.{IsValid};
 
 use crate::matches::all_matches_of;
-use graph_congruence::Graph;
+use graph_congruence::{Clash, Graph};
 use graph_meaning::{ClassGraph, Front, Op};
 use graph_terms::{Memory, TableFault, TermEntry, TermRow};
 use graph_trigger::Trigger;
@@ -157,6 +158,23 @@ impl MatchingGraph {
         let done = self.try_op(op);
         let _limit = self.limit();
         done
+    }
+
+    /// The ends of each disequation that stands, in order. Takes no memory.
+    pub fn differences(&self) -> &[(u32, u32)]
+        ensures { result.now ≡ differs_of self.now.standing }
+    {
+        let _forest = &self.forest;
+        self.graph.differences()
+    }
+
+    /// Two terms that are kept apart and are equal: true and false, or the ends of the first such disequation. Takes no
+    /// memory.
+    pub fn clash(&self) -> Option<Clash>
+        ensures { IsClash self.now.standing result }
+    {
+        let _forest = &self.forest;
+        self.graph.clash()
     }
 
     /// For each live trigger all its matches, as tuples of leaders in lexicographic order, each once.

@@ -1,0 +1,6 @@
+pub mod Branch
+pub mod Closing
+pub mod Verdict
+pub mod Assignment
+pub mod Kept
+pub mod Laws

@@ -1,0 +1,17 @@
+//! Laws of the search, each on a function that does nothing.
+ghost use Rattle.search_laws.specs.Laws.{HasOneVerdict, UnsatRefutes, SatSatisfies};
+
+/// The search of a branch ends in one way.
+pub fn one_verdict_law()
+    ensures { HasOneVerdict }
+{}
+
+/// Where the search of what is held ends without a way out, no finite assignment satisfies what is asserted.
+pub fn unsat_law()
+    ensures { UnsatRefutes }
+{}
+
+/// Where the search ends with a way out, the leaders of its terms make an assignment that satisfies what is asserted.
+pub fn sat_law()
+    ensures { SatSatisfies }
+{}

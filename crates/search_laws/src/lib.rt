@@ -1,0 +1,4 @@
+//! The plain search over formulas, as definitions, and its laws.
+#![tactic(auto)]
+
+pub mod laws;
