@@ -8,3 +8,6 @@ pub mod StackLemmas
 pub mod AssertLemmas
 pub mod MarkLemmas
 pub mod EnteredLemmas
+pub mod ExactLemmas
+pub mod ExactLaws
+pub mod NoForallsLaws
