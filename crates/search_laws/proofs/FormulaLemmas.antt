@@ -1,8 +1,8 @@
 -- Formulas that hold, fail, or have a property everywhere.
-use Rattle.std.proofs.Common.{◌≡◌, ℕ, ◌⊎◌, List, Contains, sym, subst, ◌∙◌, inl, inr, ⊎_elim}
+use Rattle.std.proofs.Common.{◌≡◌, ℕ, Bool, ◌⊎◌, List, Contains, sym, subst, ◌∙◌, inl, inr, ⊎_elim}
 use Rattle.std.proofs.lemmas.Option.{same_Some}
 use Rattle.formula_table.specs.declared.node.Node.{Node}
-use Rattle.formula_table.specs.declared.node.Node.TheVariants.{And, Or}
+use Rattle.formula_table.specs.declared.node.Node.TheVariants.{Equal, Atom, And, Or}
 use Rattle.formula_value.specs.Holds as formulas
 use Rattle.formula_value.specs.Holds.{HasNode, Holds, Fails, Everywhere}
 use Rattle.search_laws.proofs.Places.{each_or_some}
@@ -31,6 +31,13 @@ and_or ps qs e = cc
 pub record IsLeaf (node : Node) : Type 0 where
   pub not_and : (parts : List ℕ) → node ≡ And parts → ⊥
   pub not_or : (parts : List ℕ) → node ≡ Or parts → ⊥
+
+-- as an equation and an atom are not
+pub equal_leaf : (positive : Bool) (left right : ℕ) → IsLeaf (Equal positive left right)
+equal_leaf positive left right = record { not_and = λ parts e. cc; not_or = λ parts e. cc }
+
+pub atom_leaf : (positive : Bool) (term : ℕ) → IsLeaf (Atom positive term)
+atom_leaf positive term = record { not_and = λ parts e. cc; not_or = λ parts e. cc }
 
 -- a node with a property of leaves is a leaf
 pub leaf_of : {leaf : Node → Type 0} → OfLeaves leaf → (node : Node) → leaf node → IsLeaf node

@@ -66,8 +66,8 @@ pub record AreSorted (predicates : ℕ → Bool) (nodes : List Node) (leaders : 
         is_truth predicates (terms_of standing) s ≡ is_truth predicates (terms_of standing) t
     pub apart : Derives (terms_of standing) (merges_of standing) 0 1 → ⊥
 
-module _ (predicates : ℕ → Bool) (nodes : List Node) (leaders : List ℕ) (standing : List Done)
-    (are : AreSorted predicates nodes leaders standing) where
+module _ (predicates : ℕ → Bool) (formulas : Formulas) (leaders : List ℕ) (standing : List Done)
+    (are : AreSorted predicates formulas.nodes leaders standing) where
   abbrev rows : List TermRow
   rows = terms_of standing
 
@@ -131,8 +131,8 @@ module _ (predicates : ℕ → Bool) (nodes : List Node) (leaders : List ℕ) (s
   below term a h = let within = slice_get_within (kept_numbers predicates rows leaders) term a h in
       let so_many = numbers_are in omega arith
 
-  one_number : (term a : ℕ) → IsNumbered given term a → a ≡ number term
-  one_number term a h = same_Some a (number term) (sym h ∙ numbered term (below term a h))
+  number_only : (term a : ℕ) → IsNumbered given term a → a ≡ number term
+  number_only term a h = same_Some a (number term) (sym h ∙ numbered term (below term a h))
 
   same_number : (s t : ℕ) → s < length rows → t < length rows → Same s t → number s ≡ number t
   same_number s t less less' d = ap₂ kept_number (one_sort d) (same_leader s t less less' d)
@@ -192,7 +192,7 @@ module _ (predicates : ℕ → Bool) (nodes : List Node) (leaders : List ℕ) (s
   derive_each (assignment.AreNumbered.more {term = s} {number = n} {terms = ss} one rest)
       (assignment.AreNumbered.more {term = t} {terms = ts} one' rest') left right = same.more
       (same_of_number s t (below s n one) (below t n one') (left s (contains_head s ss)) (right t (contains_head t ts))
-      (sym (one_number s n one) ∙ one_number t n one'))
+      (sym (number_only s n one) ∙ number_only t n one'))
       (derive_each rest rest' (λ x c. left x (contains_later s x ss c)) (λ x c. right x (contains_later t x ts c)))
 
   args_sort : (term symbol : ℕ) (ts : List ℕ) → HasRow rows term (term_row symbol ts) → (arg : ℕ) →
@@ -208,11 +208,11 @@ module _ (predicates : ℕ → Bool) (nodes : List Node) (leaders : List ℕ) (s
     earlier = are.table.earlier;
     each = numbers_are;
     congruent = λ s t symbol a b ss ts numbers left right some others is_a is_b.
-        one_number s a is_a ∙ same_number s t (below s a is_a) (below t b is_b) (congruent left right
+        number_only s a is_a ∙ same_number s t (below s a is_a) (below t b is_b) (congruent left right
         (derive_each some others (args_sort s symbol ss left) (args_sort t symbol ts right)))
-        ∙ sym (one_number t b is_b);
-    apart = λ n is_true is_false. one_or_zero n (one_number 1 n is_false ∙ number_of_false)
-        (one_number 0 n is_true ∙ number_of_true);
+        ∙ sym (number_only t b is_b);
+    apart = λ n is_true is_false. one_or_zero n (number_only 1 n is_false ∙ number_of_false)
+        (number_only 0 n is_true ∙ number_of_true);
   }
 
   -- each term is the same ground term as itself
@@ -239,7 +239,7 @@ module _ (predicates : ℕ → Bool) (nodes : List Node) (leaders : List ℕ) (s
   }
 
   -- the terms of leaves stand
-  sides_below : (n s t : ℕ) (positive : Bool) → HasNode nodes n (Equal positive s t) →
+  sides_below : (n s t : ℕ) (positive : Bool) → HasNode formulas.nodes n (Equal positive s t) →
       (s < length rows) × (t < length rows)
   sides_below n s t positive at =
       let each : (term : ℕ) → Contains (s ∷ t ∷ []) term → term < length rows = λ term c.
@@ -247,7 +247,7 @@ module _ (predicates : ℕ → Bool) (nodes : List Node) (leaders : List ℕ) (s
       (are.stand n (Equal positive s t) at) c in
       (each s (contains_head s (t ∷ [])), each t (contains_later s t (t ∷ []) (contains_head t [])))
 
-  atom_below : (n term : ℕ) (positive : Bool) → HasNode nodes n (Atom positive term) → term < length rows
+  atom_below : (n term : ℕ) (positive : Bool) → HasNode formulas.nodes n (Atom positive term) → term < length rows
   atom_below n term positive at = All-contains (λ x. x < length (terms_of standing)) (term ∷ []) term
       (are.stand n (Atom positive term) at) (contains_head term [])
 
@@ -258,7 +258,7 @@ module _ (predicates : ℕ → Bool) (nodes : List Node) (leaders : List ℕ) (s
   abbrev IsHeldHere : Node → Type 0
   IsHeldHere node = IsHeldLeaf (kept_assignment predicates (terms_of standing) leaders) (terms_of standing) node
 
-  pub equal_true : (n s t : ℕ) → HasNode nodes n (Equal true s t) → Same s t → IsTrueHere (Equal true s t)
+  pub equal_true : (n s t : ℕ) → HasNode formulas.nodes n (Equal true s t) → Same s t → IsTrueHere (Equal true s t)
   equal_true n s t at d =
       let less = sides_below n s t true at in (
         number t,
@@ -266,7 +266,8 @@ module _ (predicates : ℕ → Bool) (nodes : List Node) (leaders : List ℕ) (s
         has_number t (number t) less.1 refl,
       )
 
-  pub differ_true : (n s t : ℕ) → HasNode nodes n (Equal false s t) → (Same s t → ⊥) → IsTrueHere (Equal false s t)
+  pub differ_true : (n s t : ℕ) → HasNode formulas.nodes n (Equal false s t) → (Same s t → ⊥) →
+      IsTrueHere (Equal false s t)
   differ_true n s t at not =
       let less = sides_below n s t false at in (
         number s,
@@ -276,7 +277,7 @@ module _ (predicates : ℕ → Bool) (nodes : List Node) (leaders : List ℕ) (s
         λ e. not (same_of_number s t less.0 less.1 (are.sorts.left n s t false at) (are.sorts.right n s t false at) e),
       )
 
-  pub atom_true : (n term : ℕ) → HasNode nodes n (Atom true term) → Same term 0 → IsTrueHere (Atom true term)
+  pub atom_true : (n term : ℕ) → HasNode formulas.nodes n (Atom true term) → Same term 0 → IsTrueHere (Atom true term)
   atom_true n term at d =
       let less = atom_below n term true at in (
         0,
@@ -290,7 +291,7 @@ module _ (predicates : ℕ → Bool) (nodes : List Node) (leaders : List ℕ) (s
   has_truth term less e =
       (1, has_number term 1 less e, subst (IsNumbered given 1) number_of_false (numbered 1 false_below))
 
-  pub atom_false : (n term : ℕ) → HasNode nodes n (Atom false term) → (Same term 0 → ⊥) →
+  pub atom_false : (n term : ℕ) → HasNode formulas.nodes n (Atom false term) → (Same term 0 → ⊥) →
       IsTrueHere (Atom false term)
   atom_false n term at not =
       let less = atom_below n term false at in
@@ -298,7 +299,7 @@ module _ (predicates : ℕ → Bool) (nodes : List Node) (leaders : List ℕ) (s
       (⊎_elim (λ h. absurd (not h.0)) (λ h. h.1) (truth_cases term less (are.sorts.atom n term false at)))
 
   -- each leaf is held
-  held_atom : (n term : ℕ) (positive : Bool) → HasNode nodes n (Atom positive term) →
+  held_atom : (n term : ℕ) (positive : Bool) → HasNode formulas.nodes n (Atom positive term) →
       IsHeldHere (Atom positive term)
   held_atom n term positive at =
       let less = atom_below n term positive at in
@@ -307,18 +308,18 @@ module _ (predicates : ℕ → Bool) (nodes : List Node) (leaders : List ℕ) (s
       (λ h. inr (has_truth term less h.1))
       (truth_cases term less (are.sorts.atom n term positive at))
 
-  module _ (formulas : Formulas) (table : IsFormulaTable formulas) (is_nodes : formulas.nodes ≡ nodes) where
-    earlier : (n part : ℕ) (node : Node) → HasNode nodes n node → Contains (children_of node) part →
-        (part < n) × ((other : Node) × HasNode nodes part other)
+  module _ (table : IsFormulaTable formulas) where
+    earlier : (n part : ℕ) (node : Node) → HasNode formulas.nodes n node → Contains (children_of node) part →
+        (part < n) × ((other : Node) × HasNode formulas.nodes part other)
     earlier n part node at c =
         let less = All-contains (λ p. p < n) (children_of node) part
-        (table.earlier n node (subst (λ ns. HasNode ns n node) (sym is_nodes) at)) c in
-        let within = slice_get_within nodes n node at in
-        (less, stands_below nodes part (omega arith))
+        (table.earlier n node at) c in
+        let within = slice_get_within formulas.nodes n node at in
+        (less, stands_below formulas.nodes part (omega arith))
 
-    held_at : (n : ℕ) (node : Node) → HasNode nodes n node →
-        ((part : ℕ) → Contains (children_of node) part → Everywhere nodes IsHeldHere part) →
-        Everywhere nodes IsHeldHere n
+    held_at : (n : ℕ) (node : Node) → HasNode formulas.nodes n node →
+        ((part : ℕ) → Contains (children_of node) part → Everywhere formulas.nodes IsHeldHere part) →
+        Everywhere formulas.nodes IsHeldHere n
     held_at n (Equal positive s t) at parts =
         let less = sides_below n s t positive at in
         truth.Everywhere.literal at (
@@ -330,7 +331,8 @@ module _ (predicates : ℕ → Bool) (nodes : List Node) (leaders : List ℕ) (s
     held_at n (Or ps) at parts = truth.Everywhere.disjunction at parts
     held_at n (Forall forall) at parts = truth.Everywhere.literal at tt
 
-    pub all_held : (bound n : ℕ) (node : Node) → n < bound → HasNode nodes n node → Everywhere nodes IsHeldHere n
+    pub all_held : (bound n : ℕ) (node : Node) → n < bound → HasNode formulas.nodes n node →
+        Everywhere formulas.nodes IsHeldHere n
     all_held zero n node less at = absurd (omega arith)
     all_held (suc bound) n node less at = held_at n node at (λ part c.
         let before = earlier n part node at c in
@@ -352,10 +354,10 @@ module _ (predicates : ℕ → Bool) (formulas : Formulas) (leaders : List ℕ) 
   -- a leaf that is known to be true is true
   yes_true : (n : ℕ) (node : Node) → HasNode formulas.nodes n node →
       IsYesLeaf (known_in last) (live_in formulas last) node → IsTrueLast node
-  yes_true n (Equal true s t) at h = equal_true predicates formulas.nodes leaders standing are n s t at h
-  yes_true n (Equal false s t) at h = differ_true predicates formulas.nodes leaders standing are n s t at h.not_same
-  yes_true n (Atom true term) at h = atom_true predicates formulas.nodes leaders standing are n term at h
-  yes_true n (Atom false term) at h = atom_false predicates formulas.nodes leaders standing are n term at h.not_true
+  yes_true n (Equal true s t) at h = equal_true predicates formulas leaders standing are n s t at h
+  yes_true n (Equal false s t) at h = differ_true predicates formulas leaders standing are n s t at h.not_same
+  yes_true n (Atom true term) at h = atom_true predicates formulas leaders standing are n term at h
+  yes_true n (Atom false term) at h = atom_false predicates formulas leaders standing are n term at h.not_true
   yes_true n (Forall forall) at h = contains_none forall (subst (λ list. Contains list forall) dead h)
   yes_true n (And parts) at h = absurd h
   yes_true n (Or parts) at h = absurd h
@@ -372,16 +374,16 @@ module _ (predicates : ℕ → Bool) (formulas : Formulas) (leaders : List ℕ) 
       ((part : ℕ) → Contains (conjuncts_of node) part → Holds formulas.nodes IsTrueLast part) →
       Holds formulas.nodes IsTrueLast n
   done_true n (Equal true s t) c at is_done parts = truth.Holds.literal at
-      (equal_true predicates formulas.nodes leaders standing are n s t at
+      (equal_true predicates formulas leaders standing are n s t at
       (merged (merge_read standing s t (is_done.operations (Merge s t) (contains_head (Merge s t) [])))))
   done_true n (Equal false s t) c at is_done parts = truth.Holds.literal at
-      (differ_true predicates formulas.nodes leaders standing are n s t at (λ d. quiet
+      (differ_true predicates formulas leaders standing are n s t at (λ d. quiet
       (difference (differ_read standing s t (is_done.operations (Differ s t) (contains_head (Differ s t) []))) d)))
   done_true n (Atom true term) c at is_done parts = truth.Holds.literal at
-      (atom_true predicates formulas.nodes leaders standing are n term at
+      (atom_true predicates formulas leaders standing are n term at
       (merged (merge_read standing term 0 (is_done.operations (Merge term 0) (contains_head (Merge term 0) [])))))
   done_true n (Atom false term) c at is_done parts = truth.Holds.literal at
-      (atom_false predicates formulas.nodes leaders standing are n term at (λ d. quiet
+      (atom_false predicates formulas leaders standing are n term at (λ d. quiet
       (true_is_false (joined (turned d)
       (merged (merge_read standing term 1 (is_done.operations (Merge term 1) (contains_head (Merge term 1) []))))))))
   done_true n (And ps) c at is_done parts = truth.Holds.every at parts
@@ -411,7 +413,7 @@ module _ (predicates : ℕ → Bool) (formulas : Formulas) (leaders : List ℕ) 
       Satisfies (kept_assignment predicates (terms_of last.held.graph.standing) leaders)
       (terms_of last.held.graph.standing) formulas.nodes n
   satisfied n c = let h = done n c in record {
-    held = all_held predicates formulas.nodes leaders standing are formulas table refl (suc n) n h.node (omega arith)
+    held = all_held predicates formulas leaders standing are table (suc n) n h.node (omega arith)
         h.has;
     is_true = asserted_true (suc n) n (omega arith) c;
   }

@@ -42,6 +42,10 @@ module _ {X : Type 0} where
   stands_below (y ∷ xs) zero less = (y, refl)
   stands_below (y ∷ xs) (suc k) less = stands_below xs k (omega arith)
 
+  -- the one element of a list
+  pub contains_one : (P : X → Type 0) (alone x : X) → P alone → Contains (alone ∷ []) x → P x
+  contains_one P alone x here c = ⊎_elim (λ e. subst P e here) (contains_none x) (contains_cases alone x [] c)
+
   -- a property of all elements stays with one more
   pub with_one : (P : X → Type 0) (xs : List X) (y : X) → ((x : X) → Contains xs x → P x) → P y → (x : X) →
       Contains (xs ++ y ∷ []) x → P x

@@ -1,6 +1,5 @@
 -- A search that ends with a way out has made an assignment.
-use Rattle.std.proofs.Common.{◌≡◌, ℕ, Bool, true, false, List, [], ◌∷◌, length, Contains, refl, sym, ap, subst, ◌∙◌}
-use Rattle.std.proofs.Common.{⊎_elim}
+use Rattle.std.proofs.Common.{◌≡◌, ℕ, Bool, true, false, List, length, Contains, refl, sym, ap, subst, ◌∙◌}
 use Rattle.std.specs.Option.{option_map_or}
 use Rattle.graph_terms.specs.declared.term_row.TermRow.{TermRow}
 use Rattle.graph_terms.specs.Terms.{IsTable}
@@ -19,7 +18,7 @@ use Rattle.search_laws.specs.Verdict.{sat, Verdict}
 use Rattle.search_laws.specs.Assignment.{IsAssignment, Satisfies}
 use Rattle.search_laws.specs.Kept.{AreLeaders, is_truth, KeepsSorts, kept_assignment}
 use Rattle.search_laws.specs.Laws.{IsInOrder, IsWayOut}
-use Rattle.search_laws.proofs.Places.{contains_none, contains_cases}
+use Rattle.search_laws.proofs.Places.{contains_none, contains_one}
 use Rattle.search_laws.proofs.GraphLemmas.{live_only, merge_stands}
 use Rattle.search_laws.proofs.CompleteLemmas.{Keeps, Follows, IsReached, grows_none, reaches}
 use Rattle.search_laws.proofs.KeptLemmas.{AreSorted, assigns, satisfied}
@@ -32,10 +31,6 @@ KeepsSort predicates rows (Differ s t) = Unit {0}
 KeepsSort predicates rows (Live trigger) = Unit {0}
 KeepsSort predicates rows Push = Unit {0}
 KeepsSort predicates rows Pop = Unit {0}
-
--- an operation that alone is there
-only : (P : Op → Type 0) (alone op : Op) → P alone → Contains (alone ∷ []) op → P op
-only P alone op here c = ⊎_elim (λ e. subst P e here) (contains_none op) (contains_cases alone op [] c)
 
 module _ (predicates : ℕ → Bool) (formulas : Formulas) (rows : List TermRow) (table : IsTable rows)
     (sorts : KeepsSorts predicates rows formulas.nodes) where
@@ -63,12 +58,12 @@ module _ (predicates : ℕ → Bool) (formulas : Formulas) (rows : List TermRow)
   of_nodes : (n : ℕ) (node : Node) → HasNode formulas.nodes n node → (op : Op) →
       Contains (operations_of formulas node) op → KeepsSort predicates rows op
   of_nodes n (Equal true s t) has op c =
-      only (KeepsSort predicates rows) (Merge s t) op (equation_sort n s t true has) c
-  of_nodes n (Equal false s t) has op c = only (KeepsSort predicates rows) (Differ s t) op tt c
+      contains_one (KeepsSort predicates rows) (Merge s t) op (equation_sort n s t true has) c
+  of_nodes n (Equal false s t) has op c = contains_one (KeepsSort predicates rows) (Differ s t) op tt c
   of_nodes n (Atom true term) has op c =
-      only (KeepsSort predicates rows) (Merge term 0) op (true_atom n term true has) c
+      contains_one (KeepsSort predicates rows) (Merge term 0) op (true_atom n term true has) c
   of_nodes n (Atom false term) has op c =
-      only (KeepsSort predicates rows) (Merge term 1) op (false_atom n term false has) c
+      contains_one (KeepsSort predicates rows) (Merge term 1) op (false_atom n term false has) c
   of_nodes n (And parts) has op c = contains_none op c
   of_nodes n (Or parts) has op c = contains_none op c
   of_nodes n (Forall forall) has op c =
@@ -77,13 +72,13 @@ module _ (predicates : ℕ → Bool) (formulas : Formulas) (rows : List TermRow)
   -- and those that refute one
   of_struck : (n : ℕ) (node : Node) → HasNode formulas.nodes n node → (op : Op) →
       Contains (refuting_of node) op → KeepsSort predicates rows op
-  of_struck n (Equal true s t) has op c = only (KeepsSort predicates rows) (Differ s t) op tt c
+  of_struck n (Equal true s t) has op c = contains_one (KeepsSort predicates rows) (Differ s t) op tt c
   of_struck n (Equal false s t) has op c =
-      only (KeepsSort predicates rows) (Merge s t) op (equation_sort n s t false has) c
+      contains_one (KeepsSort predicates rows) (Merge s t) op (equation_sort n s t false has) c
   of_struck n (Atom true term) has op c =
-      only (KeepsSort predicates rows) (Merge term 1) op (false_atom n term true has) c
+      contains_one (KeepsSort predicates rows) (Merge term 1) op (false_atom n term true has) c
   of_struck n (Atom false term) has op c =
-      only (KeepsSort predicates rows) (Merge term 0) op (true_atom n term false has) c
+      contains_one (KeepsSort predicates rows) (Merge term 0) op (true_atom n term false has) c
   of_struck n (And parts) has op c = contains_none op c
   of_struck n (Or parts) has op c = contains_none op c
   of_struck n (Forall forall) has op c = contains_none op c
@@ -128,7 +123,7 @@ way_of formulas now last leaders predicates order are sorts reached =
       apart = λ d. reached.no_conflict (true_is_false d);
     } in
     record {
-      assigns = assigns predicates formulas.nodes leaders last.held.graph.standing sorted;
+      assigns = assigns predicates formulas leaders last.held.graph.standing sorted;
       satisfies = satisfied predicates formulas leaders last sorted order.table reached.no_conflict
           reached.no_open reached.no_live reached.follows.done;
     }

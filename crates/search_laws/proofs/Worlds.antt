@@ -1,6 +1,6 @@
 -- Worlds: a number for each term of a table, the same for the same arguments, and a truth value for each forall.
-use Rattle.std.proofs.Common.{◌≡◌, ◌≢◌, ℕ, Bool, true, false, IsTrue, ◌⊎◌, List, [], ◌∷◌, map, Contains, refl, sym}
-use Rattle.std.proofs.Common.{ap₂, subst, ◌∙◌, inl, inr, ⊎_elim}
+use Rattle.std.proofs.Common.{◌≡◌, ◌≢◌, ℕ, Bool, true, false, IsTrue, ◌⊎◌, List, ◌∷◌, map, Contains, refl, sym}
+use Rattle.std.proofs.Common.{ap₂, ◌∙◌, inl, inr, ⊎_elim}
 use Rattle.std.proofs.lemmas.Bool.Decides.{eqb_tells}
 use Rattle.graph_terms.specs.declared.term_row.TermRow.{TermRow}
 use Rattle.graph_terms.specs.Terms.{term_row, HasRow}
@@ -14,9 +14,10 @@ use Rattle.formula_table.specs.Formulas.{Formulas}
 use Rattle.formula_value.specs.Holds as truth
 use Rattle.formula_value.specs.Holds.{HasNode, Holds, Everywhere}
 use Rattle.formula_assert.specs.Held.{triggers_at, operations_of, refuting_of, conjuncts_of}
-use Rattle.search_laws.proofs.Places.{contains_none, contains_cases}
+use Rattle.search_laws.proofs.Places.{contains_none, contains_one}
 use Rattle.search_laws.proofs.GraphLemmas.{live_only}
-use Rattle.search_laws.proofs.FormulaLemmas.{OfLeaves, IsLeaf, holds_and, holds_leaf, everywhere_and, everywhere_leaf}
+use Rattle.search_laws.proofs.FormulaLemmas.{OfLeaves, IsLeaf, equal_leaf, atom_leaf, holds_and, holds_leaf}
+use Rattle.search_laws.proofs.FormulaLemmas.{everywhere_and, everywhere_leaf}
 
 pub record World : Type 0 where
   pub number : ℕ → ℕ
@@ -110,10 +111,6 @@ leaf_or_not world (Forall forall) held = true_or_not (world.foralls forall)
 leaf_or_not world (And parts) held = absurd held
 leaf_or_not world (Or parts) held = absurd held
 
--- an operation that alone is there
-only : (P : Op → Type 0) (alone op : Op) → P alone → Contains (alone ∷ []) op → P op
-only P alone op here c = ⊎_elim (λ e. subst P e here) (contains_none op) (contains_cases alone op [] c)
-
 module _ (world : World) (formulas : Formulas) (n : ℕ) where
   abbrev IsTrueOne : Type 0
   IsTrueOne = IsTrueIn formulas.nodes world n
@@ -124,14 +121,14 @@ module _ (world : World) (formulas : Formulas) (n : ℕ) where
   -- what the operations of a true formula say is true
   pub operations_true : (node : Node) → HasNode formulas.nodes n node → IsTrueOne → (op : Op) →
       Contains (operations_of formulas node) op → IsTrueOp world op
-  operations_true (Equal true s t) has h op c = only (IsTrueOp world) (Merge s t) op
-      (true_leaf (Equal true s t) has (record { not_and = λ parts e. cc; not_or = λ parts e. cc }) h) c
-  operations_true (Equal false s t) has h op c = only (IsTrueOp world) (Differ s t) op
-      (true_leaf (Equal false s t) has (record { not_and = λ parts e. cc; not_or = λ parts e. cc }) h) c
-  operations_true (Atom true term) has h op c = only (IsTrueOp world) (Merge term 0) op
-      (true_leaf (Atom true term) has (record { not_and = λ parts e. cc; not_or = λ parts e. cc }) h) c
-  operations_true (Atom false term) has h op c = only (IsTrueOp world) (Merge term 1) op
-      (true_leaf (Atom false term) has (record { not_and = λ parts e. cc; not_or = λ parts e. cc }) h) c
+  operations_true (Equal true s t) has h op c = contains_one (IsTrueOp world) (Merge s t) op
+      (true_leaf (Equal true s t) has (equal_leaf true s t) h) c
+  operations_true (Equal false s t) has h op c = contains_one (IsTrueOp world) (Differ s t) op
+      (true_leaf (Equal false s t) has (equal_leaf false s t) h) c
+  operations_true (Atom true term) has h op c = contains_one (IsTrueOp world) (Merge term 0) op
+      (true_leaf (Atom true term) has (atom_leaf true term) h) c
+  operations_true (Atom false term) has h op c = contains_one (IsTrueOp world) (Merge term 1) op
+      (true_leaf (Atom false term) has (atom_leaf false term) h) c
   operations_true (And parts) has h op c = contains_none op c
   operations_true (Or parts) has h op c = contains_none op c
   operations_true (Forall forall) has h op c =
@@ -139,20 +136,19 @@ module _ (world : World) (formulas : Formulas) (n : ℕ) where
 
   held_atom : (positive : Bool) (term : ℕ) → HasNode formulas.nodes n (Atom positive term) →
       Everywhere formulas.nodes (IsHeldAt world) n → IsHeldAt world (Atom positive term)
-  held_atom positive term has h = everywhere_leaf (held_of_leaves world) has
-      (record { not_and = λ parts e. cc; not_or = λ parts e. cc }) h
+  held_atom positive term has h = everywhere_leaf (held_of_leaves world) has (atom_leaf positive term) h
 
   -- and what refutes one that is not true
   pub refuting_true : (node : Node) → HasNode formulas.nodes n node → IsNotTrueIn formulas.nodes world n →
       (op : Op) → Contains (refuting_of node) op → IsTrueOp world op
-  refuting_true (Equal true s t) has h op c = only (IsTrueOp world) (Differ s t) op
+  refuting_true (Equal true s t) has h op c = contains_one (IsTrueOp world) (Differ s t) op
       (λ e. h.not_holds (truth.Holds.literal has e)) c
-  refuting_true (Equal false s t) has h op c = only (IsTrueOp world) (Merge s t) op
+  refuting_true (Equal false s t) has h op c = contains_one (IsTrueOp world) (Merge s t) op
       (⊎_elim (λ e. e) (λ different. absurd (h.not_holds (truth.Holds.literal has different)))
       (same_or_not (world.number s) (world.number t))) c
-  refuting_true (Atom true term) has h op c = only (IsTrueOp world) (Merge term 1) op
+  refuting_true (Atom true term) has h op c = contains_one (IsTrueOp world) (Merge term 1) op
       (⊎_elim (λ e. absurd (h.not_holds (truth.Holds.literal has e))) (λ e. e) (held_atom true term has h.held)) c
-  refuting_true (Atom false term) has h op c = only (IsTrueOp world) (Merge term 0) op
+  refuting_true (Atom false term) has h op c = contains_one (IsTrueOp world) (Merge term 0) op
       (⊎_elim (λ e. e) (λ e. absurd (h.not_holds (truth.Holds.literal has e))) (held_atom false term has h.held)) c
   refuting_true (And parts) has h op c = contains_none op c
   refuting_true (Or parts) has h op c = contains_none op c
