@@ -1,0 +1,6 @@
+pub mod ListLemmas
+pub mod OverLemmas
+pub mod WayLemmas
+pub mod LeftLemmas
+pub mod FoundLemmas
+pub mod StepLemmas
