@@ -19,8 +19,9 @@ use Rattle.search_laws.specs.Verdict.{unsat, sat, Verdict}
 use Rattle.search_check.specs.declared.aside.Aside.{Aside}
 use Rattle.search_check.specs.declared.step.Step.{Step}
 use Rattle.search_check.specs.declared.step.Step.TheVariants.{Lost, Assert, Split, WayOut}
+use Rattle.search_check.specs.Truths.{branch_of}
 use Rattle.search_check.specs.Steps.{IsStep}
-use Rattle.search_check.specs.UnderWay.{branch_of, Half, second_branch, IsHalfway, AreHalves, IsOnTheWay, IsUnderWay}
+use Rattle.search_check.specs.UnderWay.{Half, second_branch, IsHalfway, AreHalves, IsOnTheWay, IsUnderWay}
 use Rattle.search_check.proofs.OverLemmas.{over_same, over_both}
 use Rattle.search_check.proofs.WayLemmas.{starts, steps, ends, splits, takes_up, loses}
 

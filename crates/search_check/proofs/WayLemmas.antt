@@ -10,8 +10,9 @@ use Rattle.search_laws.specs.Closing.{Conflict, Closes, IsFirstUnit, IsSplit, Ha
 use Rattle.search_laws.specs.Closing as closing
 use Rattle.search_laws.specs.Verdict.{Ending, unsat, sat, Verdict, IsQuiet, IsDecided}
 use Rattle.search_laws.specs.Verdict as verdicts
+use Rattle.search_check.specs.Truths.{branch_of}
 use Rattle.search_check.specs.Steps.{HasNoConflict, HasNoUnit}
-use Rattle.search_check.specs.UnderWay.{Half, branch_of, second_branch, Unwinds, IsOnTheWay}
+use Rattle.search_check.specs.UnderWay.{Half, second_branch, Unwinds, IsOnTheWay}
 use Rattle.search_check.specs.UnderWay as way
 
 module _ (formulas : Formulas) where

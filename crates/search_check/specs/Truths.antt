@@ -9,6 +9,7 @@ use Rattle.formula_truth.specs.declared.truth.Truth.TheVariants.{Yes, No, Unset}
 use Rattle.formula_value.specs.declared.facts.Facts.{Facts}
 use Rattle.formula_value.specs.Value.{AreFacts}
 use Rattle.formula_assert.specs.Held.{Held}
+use Rattle.formula_assert.specs.Assertions.{Assertions, held_of}
 use Rattle.search_laws.specs.Branch.{Branch, first_branch, IsYesIn, IsNoIn}
 
 -- the differences that stand, and no live forall
@@ -26,3 +27,7 @@ pub record AreTruths (formulas : Formulas) (now : Held) (values : List Truth) : 
   pub so_many : length values ≡ length formulas.nodes
   pub yes : (n : ℕ) → n < length formulas.nodes → (value_at values n ≡ Yes) ↔ IsYesIn formulas (first_branch now) n
   pub no : (n : ℕ) → n < length formulas.nodes → (value_at values n ≡ No) ↔ IsNoIn formulas (first_branch now) n
+
+-- the branch of what stands, with these places struck
+abbrev pub branch_of : Assertions → List (ℕ × ℕ) → Branch
+branch_of now struck = record { held = held_of now; struck = struck }

@@ -11,11 +11,8 @@ use Rattle.search_laws.specs.Verdict.{Ending, unsat, Verdict}
 use Rattle.search_check.specs.declared.aside.Aside.{Aside}
 use Rattle.search_check.specs.declared.outcome.Outcome.{Outcome}
 use Rattle.search_check.specs.declared.search.Search.{Search}
+use Rattle.search_check.specs.Truths.{branch_of}
 use Rattle.search_check.specs.Verdicts.{IsVerdictOf}
-
--- the branch of what stands, with these places struck
-abbrev pub branch_of : Assertions → List (ℕ × ℕ) → Branch
-branch_of now struck = record { held = held_of now; struck = struck }
 
 -- a split whose first half is under way: what stood and was struck at it, what the search keeps of it, and the part's node
 pub record Half : Type 0 where

@@ -3,9 +3,8 @@ ghost use Rattle.std.specs.Prelude.{◌<◌, length, Contains};
 ghost use Rattle.formula_table.specs.declared.node.Node.TheVariants.{Or};
 ghost use Rattle.formula_value.specs.Holds.{HasNode};
 ghost use Rattle.formula_assert.specs.Assertions.{held_of};
-ghost use Rattle.search_check.specs.Truths.{AreTruths};
+ghost use Rattle.search_check.specs.Truths.{AreTruths, branch_of};
 ghost use Rattle.search_check.specs.Found.{IsFound};
-ghost use Rattle.search_check.specs.UnderWay.{branch_of};
 
 use crate::left::{Left, left_places};
 use formula_assert::AssertionStack;

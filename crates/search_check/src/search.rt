@@ -3,7 +3,8 @@ ghost use Rattle.std.specs.Prelude.{◌≡◌, ◌<◌, ◌++◌, ◌∷◌, [],
 ghost use Rattle.formula_assert.specs.Assertions.{Assertions, held_of};
 ghost use Rattle.formula_assert.specs.InLevel.{HoldsMoreOver};
 ghost use Rattle.search_check.specs.Steps.{IsStep};
-ghost use Rattle.search_check.specs.UnderWay.{branch_of, IsSearching, GoesOn};
+ghost use Rattle.search_check.specs.Truths.{branch_of};
+ghost use Rattle.search_check.specs.UnderWay.{IsSearching, GoesOn};
 
 use crate::aside::Aside;
 use crate::kept::kept_of;

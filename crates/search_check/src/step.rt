@@ -1,9 +1,8 @@
 //! The next step of a search.
 ghost use Rattle.std.specs.Prelude.{◌≡◌, [], length, IfOk};
 ghost use Rattle.formula_assert.specs.Assertions.{held_of};
-ghost use Rattle.search_check.specs.Truths.{AreTruths};
+ghost use Rattle.search_check.specs.Truths.{AreTruths, branch_of};
 ghost use Rattle.search_check.specs.Steps.{IsStep, IsStepBelow, IsWithin, then_found as step_then};
-ghost use Rattle.search_check.specs.UnderWay.{branch_of};
 
 use crate::found::{Found, found_at};
 use crate::truths::truths;
