@@ -6,3 +6,5 @@ pub mod WorkLemmas
 pub mod OperationLemmas
 pub mod StackLemmas
 pub mod AssertLemmas
+pub mod MarkLemmas
+pub mod EnteredLemmas
