@@ -1,10 +1,10 @@
 -- What is found at a disjunction.
 use Rattle.std.proofs.Common.{◌≡◌, ◌≢◌, ℕ, ◌+◌, ◌<◌, List, [], ◌∷◌, length, slice_get, Some, All, Contains, refl, sym, ap, subst, ◌∙◌, arith}
 use Rattle.std.proofs.lemmas.Option.{same_Some, slice_get_within, get_or_from_slice_get}
-use Rattle.std.proofs.lemmas.List.Elements.{All-contains}
+use Rattle.std.proofs.lemmas.List.Elements.{All-weaker}
 use Rattle.formula_table.specs.declared.node.Node.{Node}
 use Rattle.formula_table.specs.declared.node.Node.TheVariants.{Equal, Atom, And, Or, Forall}
-use Rattle.formula_table.specs.Formulas.{Formulas}
+use Rattle.formula_table.specs.Formulas.{Formulas, IsFormulaTable}
 use Rattle.formula_truth.specs.declared.truth.Truth.{Truth}
 use Rattle.formula_truth.specs.declared.truth.Truth.TheVariants.{Yes, No, Unset}
 use Rattle.formula_value.specs.Holds as formulas_hold
@@ -34,8 +34,8 @@ yes_part formulas branch {parts = parts} has (formulas_hold.Holds.literal {n} {n
     absurd (subst (IsYesLeaf (known_in branch) (live_in formulas branch)) (one_node formulas.nodes n at has) leaf)
 yes_part formulas branch {parts = parts} has (formulas_hold.Holds.every {n} {parts = ps} at each) =
     absurd (and_or ps parts (one_node formulas.nodes n at has))
-yes_part formulas branch {parts = parts} has (formulas_hold.Holds.some {n} {part} {parts = ps} at within yes) =
-    (part, subst (λ (xs : List ℕ). Contains xs part) (same_ors ps parts (one_node formulas.nodes n at has)) within, yes)
+yes_part formulas branch {parts = parts} has (formulas_hold.Holds.some {n} {part} {parts = ps} at within given) =
+    (part, subst (λ (xs : List ℕ). Contains xs part) (same_ors ps parts (one_node formulas.nodes n at has)) within, given)
 
 -- a node that is no disjunction is settled
 pub settled_else : (formulas : Formulas) (branch : Branch) (n : ℕ) →
@@ -43,9 +43,17 @@ pub settled_else : (formulas : Formulas) (branch : Branch) (n : ℕ) →
 settled_else formulas branch n not =
     (λ empty. not empty.0 empty.1, λ parts is_or. absurd (not parts is_or))
 
+-- the parts of a disjunction stand
+pub parts_stand : (formulas : Formulas) (n : ℕ) (parts : List ℕ) → IsFormulaTable formulas →
+    HasNode formulas.nodes n (Or parts) → All (λ part. part < length formulas.nodes) parts
+parts_stand formulas n parts table has =
+    let within = slice_get_within formulas.nodes n (Or parts) has in
+    All-weaker (λ part. part < n) (λ part. part < length formulas.nodes) (λ part less. omega arith) parts
+    (table.earlier n (Or parts) has)
+
 module _ (formulas : Formulas) (branch : Branch) (n : ℕ) (parts : List ℕ) (values : List Truth)
     (has : HasNode formulas.nodes n (Or parts)) (asserted : Contains branch.held.asserted n)
-    (stand : All (λ part. part < length formulas.nodes) parts)
+    (table : IsFormulaTable formulas)
     (truths : AreTruths formulas branch.held values) where
   is_or : IsAssertedOr formulas branch n parts
   is_or = record { asserted = asserted; has = has }
@@ -60,7 +68,7 @@ module _ (formulas : Formulas) (branch : Branch) (n : ℕ) (parts : List ℕ) (v
   part_stands : (place part : ℕ) → slice_get parts place ≡ Some part → part < length formulas.nodes
   part_stands place part at_place = subst (λ (q : ℕ). q < length formulas.nodes)
       (get_or_from_slice_get parts place part part at_place)
-      (stand place part (slice_get_within parts place part at_place))
+      (parts_stand formulas n parts table has place part (slice_get_within parts place part at_place))
 
   -- left over by the values is left over
   pub over_to : (place part : ℕ) → IsLeft values branch.struck n parts place part →
@@ -91,8 +99,8 @@ module _ (formulas : Formulas) (branch : Branch) (n : ℕ) (parts : List ℕ) (v
 
     -- it is Yes, and something is left over
     pub found_settled : value_at values n ≡ Yes → IsFound formulas branch n Settled
-    found_settled yes =
-        let one = yes_part formulas branch has ((truths.yes n within_nodes).0 yes) in (
+    found_settled given =
+        let one = yes_part formulas branch has ((truths.yes n within_nodes).0 given) in (
           not_empty,
           λ others other. (one.0, subst (λ (ps : List ℕ). Contains ps one.0) (sym (its_parts others other)) one.1, one.2),
         )
@@ -100,7 +108,7 @@ module _ (formulas : Formulas) (branch : Branch) (n : ℕ) (parts : List ℕ) (v
     module _ (not_yes : value_at values n ≢ Yes) where
       -- no part is Yes where it isn't
       no_yes : HasNoYesPart formulas branch parts
-      no_yes q among yes = not_yes ((truths.yes n within_nodes).1 (formulas_hold.Holds.some has among yes))
+      no_yes q among given = not_yes ((truths.yes n within_nodes).1 (formulas_hold.Holds.some has among given))
 
       -- this is the only place left over, and the part is not asserted
       pub found_single : ((other q : ℕ) → IsLeftOver formulas branch n parts other q → other ≡ place) →
@@ -147,3 +155,40 @@ module _ (formulas : Formulas) (branch : Branch) (n : ℕ) (parts : List ℕ) (v
         let other = unit.only next next_part
         (subst (λ (ps : List ℕ). IsLeftOver formulas branch n ps next next_part) (sym same) there) in
         omega (arith, one, other, after)
+
+  -- what is found by the places left over, where none is
+  pub by_nothing : ((place part : ℕ) → place < length parts → IsLeft values branch.struck n parts place part → ⊥) →
+      IsFound formulas branch n Empty
+  by_nothing none = found_empty (λ place part within left. none place part within (over_from place part left))
+
+  module _ (place part : ℕ) (one : IsOnly (IsLeft values branch.struck n parts) (length parts) place part) where
+    only_over : (other q : ℕ) → IsLeftOver formulas branch n parts other q → other ≡ place
+    only_over other q left =
+        one.only other q (slice_get_within parts other q left.at_place) (over_from other q left)
+
+    -- where one is, and the disjunction is Yes
+    pub by_one_settled : value_at values n ≡ Yes → IsFound formulas branch n Settled
+    by_one_settled given = found_settled place part (over_to place part one.here) given
+
+    -- and where it isn't
+    pub by_one_single : value_at values n ≢ Yes → (Contains branch.held.asserted part → ⊥) →
+        IsFound formulas branch n (Single part)
+    by_one_single not_yes new = found_single place part (over_to place part one.here) not_yes only_over new
+
+    pub by_one_open : value_at values n ≢ Yes → Contains branch.held.asserted part →
+        IsFound formulas branch n (Open place part)
+    by_one_open not_yes old = found_open place part (over_to place part one.here) not_yes
+        (λ other q less left. let same = only_over other q left in omega (arith, same))
+        (no_unit_asserted place part (over_to place part one.here) only_over old)
+
+  module _ (place part : ℕ) (more : IsFirstOfMore (IsLeft values branch.struck n parts) (length parts) place part)
+      where
+    -- where several are
+    pub by_more_settled : value_at values n ≡ Yes → IsFound formulas branch n Settled
+    by_more_settled given = found_settled place part (over_to place part more.here) given
+
+    pub by_more_open : value_at values n ≢ Yes → IsFound formulas branch n (Open place part)
+    by_more_open not_yes = found_open place part (over_to place part more.here) not_yes
+        (λ other q less left. more.first other q less (over_from other q left))
+        (no_unit_more place part (over_to place part more.here) more.next more.next_part more.after
+        (over_to more.next more.next_part more.there))

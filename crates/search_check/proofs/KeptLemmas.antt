@@ -4,6 +4,8 @@ use Rattle.std.proofs.lemmas.List.{length-append}
 use Rattle.std.proofs.lemmas.Option.{same_Some, none-some}
 use Rattle.graph_meaning.specs.declared.done.Done.{Done}
 use Rattle.graph_meaning.specs.Same.{IsLeader}
+use Rattle.graph_meaning.specs.Standing.{terms_of}
+use Rattle.search_laws.specs.Kept.{AreLeaders}
 
 -- an element of a list with one more is one of the list, or the last
 push_cases : {X : Type 0} (xs : List X) (x : X) (k : ℕ) (y : X) → slice_get (xs ++ x ∷ []) k ≡ Some y →
@@ -37,3 +39,9 @@ next_leader standing count leader leaders new first is put = record {
       (subst (λ (k : ℕ). IsLeader standing k leader) (sym (last.0 ∙ first.so_many)) is))
       (push_cases leaders leader term other (subst (λ (ns : List ℕ). slice_get ns term ≡ Some other) put at));
 }
+
+-- with that of each
+pub all_leaders : (standing : List Done) (count : ℕ) (leaders numbers : List ℕ) → count ≡ length (terms_of standing) →
+    numbers ≡ leaders → AreFirstLeaders standing count leaders → AreLeaders standing numbers
+all_leaders standing count leaders numbers all same first = subst (AreLeaders standing) (sym same)
+    (record { each = first.so_many ∙ all; are = first.are })

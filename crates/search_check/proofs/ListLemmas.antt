@@ -1,5 +1,5 @@
 -- Lists, and what they contain.
-use Rattle.std.proofs.Common.{◌≡◌, ℕ, ◌+◌, ◌<◌, List, [], ◌∷◌, map, All, Contains, refl, sym, ap, ◌∙◌, arith}
+use Rattle.std.proofs.Common.{◌≡◌, ℕ, ◌+◌, ◌<◌, List, [], ◌∷◌, map, All, Contains, Result, Ok, Err, IfOk, refl, sym, ap, ◌∙◌, arith}
 use Rattle.std.specs.List.{zip}
 use Rattle.std.proofs.lemmas.List.Elements.{All-nil, All-cons, Contains-append_right}
 
@@ -16,3 +16,8 @@ module _ {X : Type 0} where
 pub zip_parts : (pairs : List (ℕ × ℕ)) → zip (map (λ (pair : ℕ × ℕ). pair.0) pairs) (map (λ (pair : ℕ × ℕ). pair.1) pairs) ≡ pairs
 zip_parts [] = refl
 zip_parts (pair ∷ pairs) = ap (λ (rest : List (ℕ × ℕ)). pair ∷ rest) (zip_parts pairs)
+
+-- what follows of the value of an `Ok`
+pub ok_then : {X E : Type 0} (r : Result X E) {P Q : X → Type 0} → IfOk r P → ((x : X) → P x → Q x) → IfOk r Q
+ok_then (Ok x) given follows = follows x given
+ok_then (Err e) given follows = given

@@ -49,7 +49,7 @@ are_facts standing facts lawful lefts rights live =
     let differs = differs_of standing in
     let terms = length (terms_of standing) in
     record {
-      facts = record {
+      are = record {
         paired = ap length lefts ∙ same_lengths differs ∙ sym (ap length rights);
         left = subst (All (λ term. term < terms)) (sym lefts) (ends_left differs terms lawful.whole.different_ends);
         right = subst (All (λ term. term < terms)) (sym rights) (ends_right differs terms lawful.whole.different_ends);

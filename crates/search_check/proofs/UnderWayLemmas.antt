@@ -136,6 +136,11 @@ take_seam xs ys = take-append-le (length xs) xs ys (omega arith) ∙ take_all (l
 not_none : {X : Type 0} (xs : List X) (x : X) → xs ++ x ∷ [] ≡ [] → ⊥
 not_none xs x e = omega (arith, length-append xs (x ∷ []), ap length e)
 
+-- a list without elements
+pub no_elements : {X : Type 0} (xs : List X) → length xs ≡ 0 → xs ≡ []
+no_elements [] none = refl
+no_elements (x ∷ xs) none = absurd (omega (arith, none))
+
 -- lists that are equal with an element at each end are equal without
 module _ {X : Type 0} (xs ys : List X) (x y : X) (same : xs ++ x ∷ [] ≡ ys ++ y ∷ []) where
   backwards : x ∷ reverse xs ≡ y ∷ reverse ys
@@ -246,3 +251,23 @@ module _ (start now : Assertions) (struck : List (ℕ × ℕ)) where
             (takes_up start.formulas (first_branch (held_of start)) last.half last.halves (branch_of now struck) last.way
             (subst (λ (formulas : Formulas). IsStep formulas (branch_of now struck) Lost) same step));
       }
+
+    -- what the search went back to
+    module _ (back : Assertions) (is_back : back ≡ last.half.before) where
+      pub back_over : HoldsMoreOver start back
+      back_over = subst (HoldsMoreOver start) (sym is_back) before_over
+
+      pub back_part : aside.part < length back.formulas.nodes
+      back_part = subst (λ (b : Assertions). aside.part < length b.formulas.nodes) (sym is_back) its_part
+
+      pub back_taken_up : (next : Assertions) (places : List (ℕ × ℕ)) → HoldsMoreOver back next →
+          ((node : Node) → slice_get back.formulas.nodes aside.part ≡ Some node →
+          held_of next ≡ held (replay back.graph (refuting_of node)) back.asserted) →
+          places ≡ take aside.struck struck ++ (aside.node, aside.place) ∷ [] →
+          IsStep now.formulas (branch_of now struck) Lost → now.formulas ≡ start.formulas →
+          IsUnderWay start next rest places
+      back_taken_up next places over refuted put step same = taken_up next places
+          (subst (λ (b : Assertions). HoldsMoreOver b next) is_back over)
+          (subst (λ (b : Assertions). (node : Node) → slice_get b.formulas.nodes aside.part ≡ Some node →
+          held_of next ≡ held (replay b.graph (refuting_of node)) b.asserted) is_back refuted)
+          put step same

@@ -14,7 +14,7 @@ use Rattle.search_laws.specs.Branch.{Branch, first_branch, IsYesIn, IsNoIn}
 
 -- the differences that stand, and no live forall
 pub record AreFactsOf (standing : List Done) (facts : Facts) : Type 0 where
-  pub facts : AreFacts (length (terms_of standing)) facts
+  pub are : AreFacts (length (terms_of standing)) facts
   pub differs : zip facts.differ_left facts.differ_right ≡ differs_of standing
   pub live : facts.live ≡ []
 

@@ -1,9 +1,10 @@
 //! What a search finds at one formula.
-ghost use Rattle.std.specs.Prelude.{◌<◌, length, Contains};
+ghost use Rattle.std.specs.Prelude.{◌≡◌, ◌<◌, ◌↔◌, length, Contains, IsTrue};
 ghost use Rattle.formula_table.specs.declared.node.Node.TheVariants.{Or};
+ghost use Rattle.formula_truth.specs.declared.truth.Truth.TheVariants.{Yes};
 ghost use Rattle.formula_value.specs.Holds.{HasNode};
 ghost use Rattle.formula_assert.specs.Assertions.{held_of};
-ghost use Rattle.search_check.specs.Truths.{AreTruths, branch_of};
+ghost use Rattle.search_check.specs.Truths.{AreTruths, branch_of, value_at};
 ghost use Rattle.search_check.specs.Found.{IsFound};
 
 use crate::left::{Left, left_places};
@@ -30,6 +31,14 @@ pub(crate) enum Found {
     },
 }
 
+/// Whether the formula with this number is Yes.
+fn is_yes_at(values: &[Truth], n: u32) -> bool
+    requires { n < length values.now }
+    ensures { IsTrue result ↔ (value_at values.now n ≡ Yes) }
+{
+    is_yes(values[n as usize])
+}
+
 /// What is found at an asserted disjunction.
 fn found_in(
     stack: &AssertionStack,
@@ -44,7 +53,7 @@ fn found_in(
     ensures { IsFound stack.now.formulas (branch_of stack.now struck.now) n result }
 {
     let _nodes = stack.formulas().len();
-    let yes = is_yes(values[n as usize]);
+    let yes = is_yes_at(values, n);
     match left_places(values, struck, n, parts) {
         Left::Nothing => return Found::Empty,
         Left::One { place, part } => {

@@ -27,7 +27,8 @@ fn leaders_of(alloc: Global, graph: &MatchingGraph) -> Result<Numbers, Memory>
     for term in 0..graph.len() {
         push_number(&mut leaders, graph.leader(term))?;
     }
-    Numbers::from_slice(alloc, &leaders)
+    let numbers = Numbers::from_slice(alloc, &leaders)?;
+    Ok(numbers)
 }
 
 /// The leaders and the asserted nodes of what the stack holds.

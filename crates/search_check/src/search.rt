@@ -44,10 +44,9 @@ impl Search {
     pub(crate) fn new(alloc: Global) -> Search
         ensures { (start : Assertions) → IsSearching start start result }
     {
-        Search {
-            asides: Vec::new(alloc),
-            struck: Vec::new(alloc),
-        }
+        let asides = Vec::new(alloc);
+        let struck = Vec::new(alloc);
+        Search { asides, struck }
     }
 
     /// Takes up the second half of the last split that is under way; where there is none, the search is lost.
@@ -89,12 +88,14 @@ impl Search {
         ensures ok { IfOk result (λ outcome. (start : Assertions) → IsSearching start stack.old self.old → IsStep stack.old.formulas (branch_of stack.old self.old.struck.items) (Step.Split node place part) → GoesOn start stack.new self.new outcome) }
         ensures more { HoldsMoreOver stack.old stack.new }
     {
+        let mark = stack.mark();
+        let struck = self.struck.len();
         let aside = Aside {
             node,
             place,
             part,
-            mark: stack.mark(),
-            struck: self.struck.len(),
+            mark,
+            struck,
         };
         push_aside(&mut self.asides, aside)?;
         stack.assert_entered(part)?;
