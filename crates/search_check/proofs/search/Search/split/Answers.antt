@@ -1,4 +1,4 @@
-use Rattle.std.proofs.Common.{◌≡◌, length, refl, arith}
+use Rattle.std.proofs.Common.{refl, arith}
 use Rattle.search_check.specs.declared.aside.Aside.{Aside}
 use Rattle.search_check.proofs.UnderWayLemmas.{split_asserted}
 use Rattle.search_check.proofs.search.Search.split.Goals as goal
@@ -14,4 +14,5 @@ returns-clause-ok c start searching step =
     } in
     split_asserted start c.args.stack.now c.args.self.now.asides.items c.args.self.now.struck.items searching
     c.assert_entered.new.self c.args.part c.assert_entered.ensures.more c.in_ok-assert_entered.ensures.ok aside
-    c.push_aside.new.asides.items refl step c.mark-mark.ensures ? c.requires c.in_ok-push_aside.ensures.ok
+    c.push_aside.new.asides.items refl step c.mark-mark.ensures
+    (omega (arith, c.args.self.now.struck.ok, c.len-struck.ensures)) c.requires c.in_ok-push_aside.ensures.ok

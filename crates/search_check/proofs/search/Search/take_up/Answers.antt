@@ -1,5 +1,4 @@
-use Rattle.std.proofs.Common.{◌≡◌, length, [], sym, subst}
-use Rattle.formula_assert.specs.Assertions.{Assertions}
+use Rattle.std.proofs.Common.{arith}
 use Rattle.search_check.proofs.OverLemmas.{over_both}
 use Rattle.search_check.proofs.UnderWayLemmas.{over_start, same_formulas, no_elements, none_left, last_half, its_mark, its_over, back_over, back_part, back_taken_up}
 use Rattle.search_check.proofs.search.Search.take_up.Goals as goal
@@ -7,7 +6,8 @@ use Rattle.search_check.proofs.search.Search.take_up.Goals as goal
 pub returns-in-None-clause-ok : goal.returns-in-None-clause-ok
 returns-in-None-clause-ok c start searching step =
     none_left start c.args.stack.now c.args.self.now.struck.items c.args.self.now.asides.items
-    (no_elements c.args.self.now.asides.items c.in-None.ensures.cases.0) searching step
+    (no_elements c.args.self.now.asides.items
+    (omega (arith, c.args.self.now.asides.ok, c.in-None.ensures.cases.0))) searching step
 
 pub returns-in-None-clause-more : goal.returns-in-None-clause-more
 returns-in-None-clause-more c start searching =
@@ -69,7 +69,7 @@ returns-in-Some-clause-ok c start searching step =
     back_taken_up start now struck rest aside last c.back_to.new.self
     (c.back_to.ensures last.half.before (its_mark start now struck rest aside last)
     (its_over start now struck rest aside last))
-    c.refute.new.self c.strike.new.struck.items c.refute.ensures.more c.in_ok-refute.ensures.ok c.in_ok-strike.ensures
+    c.refute.new.self c.strike.new.struck.items c.refute.ensures.more c.in_ok-refute-in-Some.ensures.ok c.in_ok-strike-in-Some.ensures
     step (same_formulas start now c.args.self.now.asides.items struck searching)
 
 pub returns-in-Some-clause-more : goal.returns-in-Some-clause-more
