@@ -182,13 +182,13 @@ module _ (formulas : Formulas) (branch : Branch) (n : ℕ) (parts : List ℕ) (v
         (no_unit_asserted place part (over_to place part one.here) only_over old)
 
   module _ (place part : ℕ) (more : IsFirstOfMore (IsLeft values branch.struck n parts) (length parts) place part)
-      where
-    -- where several are
-    pub by_more_settled : value_at values n ≡ Yes → IsFound formulas branch n Settled
-    by_more_settled given = found_settled place part (over_to place part more.here) given
+    where
+      -- where several are
+      pub by_more_settled : value_at values n ≡ Yes → IsFound formulas branch n Settled
+      by_more_settled given = found_settled place part (over_to place part more.here) given
 
-    pub by_more_open : value_at values n ≢ Yes → IsFound formulas branch n (Open place part)
-    by_more_open not_yes = found_open place part (over_to place part more.here) not_yes
-        (λ other q less left. more.first other q less (over_from other q left))
-        (no_unit_more place part (over_to place part more.here) more.next more.next_part more.after
-        (over_to more.next more.next_part more.there))
+      pub by_more_open : value_at values n ≢ Yes → IsFound formulas branch n (Open place part)
+      by_more_open not_yes = found_open place part (over_to place part more.here) not_yes
+          (λ other q less left. more.first other q less (over_from other q left))
+          (no_unit_more place part (over_to place part more.here) more.next more.next_part more.after
+          (over_to more.next more.next_part more.there))

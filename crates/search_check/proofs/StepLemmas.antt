@@ -92,9 +92,11 @@ module _ (formulas : Formulas) (branch : Branch) where
           let ends = same_pair (0, 1) (clash.left, clash.right) (same_Some (0, 1) (clash.left, clash.right) at) in
           closing.Conflict.true_is_false (subst (λ (s : ℕ). Same branch.held.graph.standing s 1) (sym ends.0)
           (subst (λ (t : ℕ). Same branch.held.graph.standing clash.left t) (sym ends.1) is.2))
-      by (suc k) at = closing.Conflict.difference
-          (k, slice_get_within (differs_of branch.held.graph.standing) k (clash.left, clash.right) at,
-          get_or_from_slice_get (differs_of branch.held.graph.standing) k (clash.left, clash.right) (clash.left, clash.right) at)
+      by (suc k) at = closing.Conflict.difference (
+        k,
+        slice_get_within (differs_of branch.held.graph.standing) k (clash.left, clash.right) at,
+        get_or_from_slice_get (differs_of branch.held.graph.standing) k (clash.left, clash.right) (clash.left, clash.right) at,
+      )
           is.2
 
   module _ (no_clash : IsClash branch.held.graph.standing None) where

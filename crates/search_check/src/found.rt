@@ -21,14 +21,9 @@ pub(crate) enum Found {
     /// An asserted disjunction of which nothing is left over.
     Empty,
     /// One without a Yes part, of which this part alone is left over, and it is not asserted.
-    Single {
-        part: u32,
-    },
+    Single { part: u32 },
     /// Another one without a Yes part, with its first place left over.
-    Open {
-        place: u32,
-        part: u32,
-    },
+    Open { place: u32, part: u32 },
 }
 
 /// Whether the formula with this number is Yes.

@@ -11,15 +11,9 @@ pub(crate) enum Left {
     /// None is.
     Nothing,
     /// This one alone is, with this part.
-    One {
-        place: u32,
-        part: u32,
-    },
+    One { place: u32, part: u32 },
     /// This one is the first of several.
-    More {
-        place: u32,
-        part: u32,
-    },
+    More { place: u32, part: u32 },
 }
 
 /// Whether the place of the disjunction is struck.
@@ -51,12 +45,7 @@ fn then_place(left: Left, place: u32, part: u32, is_left: bool) -> Left
 }
 
 /// Which places of the disjunction with these parts are left over.
-pub(crate) fn left_places(
-    values: &[Truth],
-    struck: &[(u32, u32)],
-    n: u32,
-    parts: &Numbers,
-) -> Left
+pub(crate) fn left_places(values: &[Truth], struck: &[(u32, u32)], n: u32, parts: &Numbers) -> Left
     requires { All (λ part. part < length values.now) parts.now }
     ensures { AreLeft (IsLeft values.now struck.now n parts.now) (length parts.now) result }
 {

@@ -16,7 +16,5 @@ pub enum Outcome {
     /// There is no way out: what is asserted cannot be true together.
     Unsat,
     /// There is one.
-    Sat {
-        kept: Kept,
-    },
+    Sat { kept: Kept },
 }
