@@ -2,6 +2,7 @@
 ghost use Rattle.em_outside.specs.Limits.{AreLawful};
 
 mod library;
+mod solving;
 
 use em_outside::{Failed, Limits, MemSink, MemSource, Sink, Source};
 use em_printing::{TermStop, write_term};
@@ -509,7 +510,6 @@ const WORDS: &[&[&str]] = &[
     &["drill"],
     &[],
     &["--workers", "1", "matches"],
-    &["solve"],
     &["make", "2"],
 ];
 
