@@ -36,7 +36,7 @@ grows_both first second third one two = record {
 pub grows_by : (before after : GraphState) (op : Op) → IsInLevel op → after ≡ state_after before op → GrowsGraph before after
 grows_by before after op inside is = record { operations = op ∷ []; in_level = All-cons IsInLevel op [] inside (All-nil IsInLevel); after_is = is }
 
-all_adding : (rows : List TermRow) → All IsInLevel (map adding rows)
+pub all_adding : (rows : List TermRow) → All IsInLevel (map adding rows)
 all_adding [] = All-nil IsInLevel
 all_adding (row ∷ rows) = All-cons IsInLevel (adding row) (map adding rows) tt (all_adding rows)
 

@@ -6,3 +6,8 @@ pub mod WorkLemmas
 pub mod OperationLemmas
 pub mod StackLemmas
 pub mod AssertLemmas
+pub mod MarkLemmas
+pub mod EnteredLemmas
+pub mod ExactLemmas
+pub mod ExactLaws
+pub mod NoForallsLaws

@@ -18,7 +18,7 @@ use Rattle.formula_assert.specs.InLevel.{IsInLevel, GrowsGraph}
 use Rattle.formula_table.specs.Node.{terms_in}
 use Rattle.formula_assert.proofs.Growth.{grows_none, grows_by}
 
-all_live : (triggers : List Trigger) → All IsInLevel (map Live triggers)
+pub all_live : (triggers : List Trigger) → All IsInLevel (map Live triggers)
 all_live [] = All-nil IsInLevel
 all_live (trigger ∷ triggers) = All-cons IsInLevel (Live trigger) (map Live triggers) tt (all_live triggers)
 

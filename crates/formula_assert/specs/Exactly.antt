@@ -1,11 +1,13 @@
 -- What is held is exactly what the asserted nodes stand for.
-use Rattle.std.specs.Prelude.{◌≡◌, ℕ, List, map, slice_get, Some, Contains}
+use Rattle.std.specs.Prelude.{◌≡◌, ℕ, List, [], ◌∷◌, map, slice_get, Some, Contains}
 use Rattle.graph_meaning.specs.declared.op.Op.{Op}
-use Rattle.graph_meaning.specs.declared.op.Op.TheVariants.{Merge, Differ}
+use Rattle.graph_meaning.specs.declared.op.Op.TheVariants.{Merge, Differ, Pop}
 use Rattle.graph_meaning.specs.declared.done.Done.{Done}
+use Rattle.graph_meaning.specs.State.{GraphState, state_after}
 use Rattle.formula_table.specs.declared.node.Node.{Node}
 use Rattle.formula_table.specs.Formulas.{Formulas}
-use Rattle.formula_assert.specs.Held.{Held, operations_of, conjuncts_of}
+use Rattle.formula_assert.specs.Held.{Held, held, operations_of, conjuncts_of}
+use Rattle.formula_assert.specs.Assertions.{Saved, Assertions, held_of}
 
 -- the operations that stand, without their serials
 abbrev pub operations_in : List Done → List Op
@@ -34,3 +36,14 @@ pub record HoldsExactly (formulas : Formulas) (now : Held) : Type 0 where
       IsOfAsserted formulas now (Merge s t)
   pub differs : (s t : ℕ) → Contains (operations_in now.graph.standing) (Differ s t) →
       IsOfAsserted formulas now (Differ s t)
+
+-- what would stand if the levels ended, from the innermost to the outermost, was exact
+abbrev pub WereExact : GraphState → List Saved → Type 0
+WereExact graph [] = Unit {0}
+WereExact graph (level ∷ saved) = HoldsExactly level.formulas (held (state_after graph Pop) level.asserted) ×
+    WereExact (state_after graph Pop) saved
+
+-- what is held is exactly what the asserted nodes stand for, now and as it stood when each level was opened
+pub record AreExact (now : Assertions) : Type 0 where
+  pub present : HoldsExactly now.formulas (held_of now)
+  pub saved : WereExact now.graph now.saved

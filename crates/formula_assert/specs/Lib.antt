@@ -4,6 +4,7 @@ pub mod Assertions
 pub mod Tables
 pub mod AssertFormula
 pub mod Exactly
+pub mod NoForalls
 pub mod InLevel
 pub mod Mark
 pub mod Stands
