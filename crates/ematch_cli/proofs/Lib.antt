@@ -6,5 +6,3 @@ pub mod OneAnswer
 pub mod Reached
 pub mod Exits
 pub mod Steps
-pub mod Undone
-pub mod Searched
