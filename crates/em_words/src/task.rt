@@ -10,6 +10,8 @@ use std::alloc::{AllocError, Global};
 pub enum Task {
     /// By the matches of each live trigger.
     Matches,
+    /// By how a search ends.
+    Solve,
 }
 
 /// The task of a job, where it is built.
@@ -18,7 +20,8 @@ fn task_of(job: Job) -> Option<Task>
 {
     match job {
         Job::Matches => Some(Task::Matches),
-        Job::Solve | Job::Make { .. } | Job::Drill { .. } => None,
+        Job::Solve => Some(Task::Solve),
+        Job::Make { .. } | Job::Drill { .. } => None,
     }
 }
 

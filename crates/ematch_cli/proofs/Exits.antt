@@ -230,7 +230,7 @@ module _ (task : Task) (limits : Limits) (in0 in1 in2 out0 out1 out2 : Option (L
   exit words later text r replies wrote = exited task limits in0 in2 out0 out1 out2 now (behind_taken r.taken) (after r.taken r.given) text wrote
       (λ known more. subst (λ (t : Script). IsAnswer task limits known t now (last text Finished)) (sym (r.answer.first more)) (exit_answer task limits known words (script new (new.held ++ more)) now later text replies))
 
-  pub refused_command : (words : List Word) (line : List ℕ) (s : Status) → Reads old new in1 in2 (Ok (Some words)) → IsRefused now words line → WritesError line out1 out2 s → Answers task limits in0 in2 out0 out2 s
+  pub refused_command : (words : List Word) (line : List ℕ) (s : Status) → Reads old new in1 in2 (Ok (Some words)) → IsRefused task now words line → WritesError line out1 out2 s → Answers task limits in0 in2 out0 out2 s
   refused_command words line s r refused writes = error_line task limits in0 in2 out0 out1 out2 now (behind_taken r.taken) (after r.taken r.given) line s writes
       (λ known more. subst (λ (t : Script). IsAnswer task limits known t now (failure line)) (sym (r.answer.first more)) (refused_answer task limits known words (script new (new.held ++ more)) now line refused))
       (λ front begins. subst (λ (t : Script). IsAnswerFront task limits false t now front) (sym (r.answer.first [])) (refused_front task limits false words (script new (new.held ++ [])) now line front refused begins))

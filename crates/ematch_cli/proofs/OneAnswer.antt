@@ -7,31 +7,38 @@ use Rattle.smt_text.specs.Word.{Word}
 use Rattle.smt_text.specs.Script.{Script, End, Fault, Command}
 use Rattle.formula_draft.specs.Draft.{Formula, IsFormula}
 use Rattle.formula_table.specs.declared.enter_fault.EnterFault.{EnterFault}
-use Rattle.formula_assert.specs.Assertions.{Assertions, no_assertions, pushed, popped}
+use Rattle.formula_assert.specs.Assertions.{Assertions, held_of, no_assertions, pushed, popped}
 use Rattle.formula_assert.specs.AssertFormula.{StopsAssert}
+use Rattle.formula_assert.specs.NoForalls.{HasNoForalls}
 use Rattle.formula_assert.specs.Tables.{AreTables}
 use Rattle.formula_assert.proofs.OutcomeLaws.{tables_at_start, tables_pushed, tables_popped, tables_asserted, asserts_formula_once, asserted_not_stopped, stopped_once}
 use Rattle.smt_names.specs.Names.{State, at_start}
 use Rattle.smt_names.specs.declared.syntax_fault.SyntaxFault.{SyntaxFault}
-use Rattle.smt_commands.specs.SessionLaws.{IsSound, KeepsSound}
+use Rattle.smt_commands.specs.SessionLaws.{IsSound}
+use Rattle.search_laws.specs.Branch.{first_branch}
+use Rattle.search_laws.specs.Verdict.{Ending}
+use Rattle.search_laws.specs.Laws.{HasOneVerdict}
 use Rattle.smt_commands.specs.Commands.{elaborate}
 use Rattle.smt_commands.specs.Commands as commands
 use Rattle.smt_commands.specs.declared.command.Command as syntax
 use Rattle.smt_commands.specs.declared.command.Command.TheVariants as command
-use Rattle.ematch_cli.specs.ErrorLine.{refusal_line, room_line}
+use Rattle.ematch_cli.specs.ErrorLine.{refusal_line, room_line, unbuilt_line}
 use Rattle.em_printing.specs.Names.{names_of}
-use Rattle.ematch_cli.specs.Response.{IsCheckResponse, IsResponse}
+use Rattle.ematch_cli.specs.Response.{verdict_line, IsCheckResponse, IsResponse}
 use Rattle.ematch_cli.specs.RunState.{RunState, run_state}
-use Rattle.ematch_cli.specs.Run.{repeated, Does, answered, Replies, FindsNoRoom, IsRefused}
+use Rattle.ematch_cli.specs.Run.{repeated, Does, answered, Replies, FindsNoRoom, IsNotTaken, IsRefused}
+use Rattle.ematch_cli.specs.RunLaws.{StaysGround, RunLaws}
+use Rattle.ematch_cli.specs.Takes.{Takes, Suits}
 use Rattle.ematch_cli.specs.Output.{Answer, Finished, IsAnswer, BeginsWith, IsAnswerFront, behind, failure, last, opening}
 use Rattle.em_words.specs.declared.task.Task.{Task}
-use Rattle.em_words.specs.declared.task.Task.TheVariants.{Matches}
+use Rattle.em_words.specs.declared.task.Task.TheVariants.{Matches, Solve}
 use Rattle.ematch_cli.proofs.OneText.{listing_once}
 
 -- what holds between two commands of a run
-pub record IsRight (now : RunState) : Type 0 where
+pub record IsRight (task : Task) (now : RunState) : Type 0 where
   pub session : IsSound now.session
   pub tables : AreTables now.assertions
+  pub suits : Suits task now.assertions
 
 -- a result is one
 ok_once : {A E : Type 0} (result : Result A E) (one other : A) → result ≡ Ok one → result ≡ Ok other → one ≡ other
@@ -48,25 +55,37 @@ repeated_keeps : (P : Assertions → Type 0) (change : Assertions → Assertions
 repeated_keeps P change keeps zero now is = is
 repeated_keeps P change keeps (suc n) now is = repeated_keeps P change keeps n (change now) (keeps now is)
 
-pub right_opening : (limits : Limits) → IsSound (at_start limits) → IsRight (opening limits)
-right_opening limits sound = record { session = sound; tables = tables_at_start limits.terms limits.nodes }
+-- what is asserted at the start suits each task
+suits_opening : StaysGround → (task : Task) (limits : Limits) → Suits task (no_assertions limits.terms limits.nodes)
+suits_opening law Matches limits = tt
+suits_opening law Solve limits = law.starts limits.terms limits.nodes
+
+pub right_opening : RunLaws → (task : Task) (limits : Limits) → IsRight task (opening limits)
+right_opening law task limits = record {
+  session = law.starts limits;
+  tables = tables_at_start limits.terms limits.nodes;
+  suits = suits_opening law.ground task limits;
+}
 
 -- a check is answered by one text
-check_once : (task : Task) (after : RunState) (a b : List ℕ) → IsCheckResponse task after a → IsCheckResponse task after b → a ≡ b
-check_once Matches after a b one other = listing_once (names_of after.session) after.assertions.graph.standing a b one other
+check_once : HasOneVerdict → (task : Task) (after : RunState) (a b : List ℕ) → IsCheckResponse task after a → IsCheckResponse task after b → a ≡ b
+check_once law Matches after a b one other = listing_once (names_of after.session) after.assertions.graph.standing a b one other
+check_once law Solve after a b one other =
+    let same : one.ending ≡ other.ending = law after.assertions.formulas (first_branch (held_of after.assertions)) one.ending other.ending one.verdict other.verdict in
+    one.is ∙ ap verdict_line same ∙ sym other.is
 
 -- a command is answered by one text
-response_once : (task : Task) (what : syntax.Command) (before after : RunState) (a b : List ℕ) → IsResponse task what before after a → IsResponse task what before after b → a ≡ b
-response_once task command.Unsupported before after a b one other = one ∙ sym other
-response_once task command.CheckSat before after a b one other = check_once task after a b one other
-response_once task (command.GetInfo info) before after a b one other = one ∙ sym other
-response_once task command.Reset before after a b one other = one ∙ sym other
-response_once task command.Silent before after a b one other = one ∙ sym other
-response_once task (command.Assert formula) before after a b one other = one ∙ sym other
-response_once task (command.Push count) before after a b one other = one ∙ sym other
-response_once task (command.Pop count) before after a b one other = one ∙ sym other
-response_once task command.ResetAssertions before after a b one other = one ∙ sym other
-response_once task command.Exit before after a b one other = one ∙ sym other
+response_once : HasOneVerdict → (task : Task) (what : syntax.Command) (before after : RunState) (a b : List ℕ) → IsResponse task what before after a → IsResponse task what before after b → a ≡ b
+response_once law task command.Unsupported before after a b one other = one ∙ sym other
+response_once law task command.CheckSat before after a b one other = check_once law task after a b one other
+response_once law task (command.GetInfo info) before after a b one other = one ∙ sym other
+response_once law task command.Reset before after a b one other = one ∙ sym other
+response_once law task command.Silent before after a b one other = one ∙ sym other
+response_once law task (command.Assert formula) before after a b one other = one ∙ sym other
+response_once law task (command.Push count) before after a b one other = one ∙ sym other
+response_once law task (command.Pop count) before after a b one other = one ∙ sym other
+response_once law task command.ResetAssertions before after a b one other = one ∙ sym other
+response_once law task command.Exit before after a b one other = one ∙ sym other
 
 -- what begins with nothing, and what begins with a front and has more behind it
 nothing_begins : (front bytes : List ℕ) → front ≡ [] → BeginsWith front bytes
@@ -78,10 +97,10 @@ begins_more front text more begins = (begins.0 ++ more, ap (λ (t : List ℕ). t
 begins_behind : (text front bytes : List ℕ) → BeginsWith front bytes → BeginsWith (text ++ front) (text ++ bytes)
 begins_behind text front bytes begins = (begins.0, ap (λ (b : List ℕ). text ++ b) begins.1 ∙ sym (append_assoc text front begins.0))
 
-module _ (limits : Limits) where
+module _ (task : Task) (limits : Limits) where
   -- a command does one thing
-  does_once : (what : syntax.Command) (before one other : Assertions) → AreTables before → ((formula : Formula) → what ≡ command.Assert formula → IsFormula formula) → Does limits what before one → Does limits what before other → one ≡ other
-  does_once (command.Assert formula) before one other tables is does also = asserts_formula_once formula before one other (is formula refl) tables does also
+  does_once : (what : syntax.Command) (before one other : Assertions) → AreTables before → ((formula : Formula) → what ≡ command.Assert formula → IsFormula formula) → Does task limits what before one → Does task limits what before other → one ≡ other
+  does_once (command.Assert formula) before one other tables is does also = asserts_formula_once formula before one other (is formula refl) tables does.1 also.1
   does_once (command.Push count) before one other tables is does also = does ∙ sym also
   does_once (command.Pop count) before one other tables is does also = does ∙ sym also
   does_once command.Reset before one other tables is does also = does ∙ sym also
@@ -93,8 +112,8 @@ module _ (limits : Limits) where
   does_once command.Exit before one other tables is does also = does ∙ sym also
 
   -- and leaves tables
-  does_tables : (what : syntax.Command) (before after : Assertions) → AreTables before → ((formula : Formula) → what ≡ command.Assert formula → IsFormula formula) → Does limits what before after → AreTables after
-  does_tables (command.Assert formula) before after tables is does = tables_asserted formula before after (is formula refl) tables does
+  does_tables : (what : syntax.Command) (before after : Assertions) → AreTables before → ((formula : Formula) → what ≡ command.Assert formula → IsFormula formula) → Does task limits what before after → AreTables after
+  does_tables (command.Assert formula) before after tables is does = tables_asserted formula before after (is formula refl) tables does.1
   does_tables (command.Push count) before after tables is does = subst AreTables (sym does) (repeated_keeps AreTables pushed tables_pushed count before tables)
   does_tables (command.Pop count) before after tables is does = subst AreTables (sym does) (repeated_keeps AreTables popped tables_popped count before tables)
   does_tables command.Reset before after tables is does = subst AreTables (sym does) (tables_at_start limits.terms limits.nodes)
@@ -105,53 +124,87 @@ module _ (limits : Limits) where
   does_tables (command.GetInfo info) before after tables is does = subst AreTables (sym does) tables
   does_tables command.Exit before after tables is does = subst AreTables (sym does) tables
 
-module _ (task : Task) (limits : Limits) (law : KeepsSound) where
+-- and what suits the task
+pub suits_after : StaysGround → (task : Task) (limits : Limits) (what : syntax.Command) (before after : Assertions) → Suits task before → Does task limits what before after → Suits task after
+suits_after law Matches limits what before after suits does = tt
+suits_after law Solve limits (command.Assert formula) before after suits does = law.asserted formula before after does.0 suits does.1
+suits_after law Solve limits (command.Push count) before after suits does = subst HasNoForalls (sym does) (repeated_keeps HasNoForalls pushed law.opened count before suits)
+suits_after law Solve limits (command.Pop count) before after suits does = subst HasNoForalls (sym does) (repeated_keeps HasNoForalls popped law.ended count before suits)
+suits_after law Solve limits command.Reset before after suits does = subst HasNoForalls (sym does) (law.starts limits.terms limits.nodes)
+suits_after law Solve limits command.ResetAssertions before after suits does = subst HasNoForalls (sym does) (law.starts limits.terms limits.nodes)
+suits_after law Solve limits command.Silent before after suits does = subst HasNoForalls (sym does) suits
+suits_after law Solve limits command.Unsupported before after suits does = subst HasNoForalls (sym does) suits
+suits_after law Solve limits command.CheckSat before after suits does = subst HasNoForalls (sym does) suits
+suits_after law Solve limits (command.GetInfo info) before after suits does = subst HasNoForalls (sym does) suits
+suits_after law Solve limits command.Exit before after suits does = subst HasNoForalls (sym does) suits
+
+module _ (task : Task) (limits : Limits) (law : RunLaws) where
   -- what is asserted is a formula
-  formula_of : (now : RunState) (words : List Word) (what : syntax.Command) (session : State) → IsRight now → elaborate now.session words ≡ Ok (answered what session) → (formula : Formula) → what ≡ command.Assert formula → IsFormula formula
-  formula_of now words what session right elaborated formula is = ((law now.session words (answered what session) right.session elaborated).1 formula is).0
+  formula_of : (now : RunState) (words : List Word) (what : syntax.Command) (session : State) → IsRight task now → elaborate now.session words ≡ Ok (answered what session) → (formula : Formula) → what ≡ command.Assert formula → IsFormula formula
+  formula_of now words what session right elaborated formula is = ((law.keeps now.session words (answered what session) right.session elaborated).1 formula is).0
 
   -- a command is answered in one way
-  pub replies_once : (now : RunState) (words : List Word) (c d : syntax.Command) (s t : RunState) (a b : List ℕ) → IsRight now → Replies task limits now words c s a → Replies task limits now words d t b → (c ≡ d) × (s ≡ t) × (a ≡ b)
+  pub replies_once : (now : RunState) (words : List Word) (c d : syntax.Command) (s t : RunState) (a b : List ℕ) → IsRight task now → Replies task limits now words c s a → Replies task limits now words d t b → (c ≡ d) × (s ≡ t) × (a ≡ b)
   replies_once now words c d s t a b right one other =
       let same : answered c s.session ≡ answered d t.session = ok_once (elaborate now.session words) (answered c s.session) (answered d t.session) one.elaborated other.elaborated in
       let what : c ≡ d = ap (λ (answer : commands.Answer). answer.command) same in
       let session : s.session ≡ t.session = ap (λ (answer : commands.Answer). answer.state) same in
-      let also : Does limits c now.assertions t.assertions = subst (λ (x : syntax.Command). Does limits x now.assertions t.assertions) (sym what) other.does in
-      let assertions : s.assertions ≡ t.assertions = does_once limits c now.assertions s.assertions t.assertions right.tables (formula_of now words c s.session right one.elaborated) one.does also in
+      let also : Does task limits c now.assertions t.assertions = subst (λ (x : syntax.Command). Does task limits x now.assertions t.assertions) (sym what) other.does in
+      let assertions : s.assertions ≡ t.assertions = does_once task limits c now.assertions s.assertions t.assertions right.tables (formula_of now words c s.session right one.elaborated) one.does also in
       let state : s ≡ t = ap₂ run_state session assertions in
       let responds : IsResponse task c now s b = subst (λ (u : RunState). IsResponse task c now u b) (sym state) (subst (λ (x : syntax.Command). IsResponse task x now t b) (sym what) other.responds) in
-      (what, state, response_once task c now s a b one.responds responds)
+      (what, state, response_once law.verdict task c now s a b one.responds responds)
 
   -- and then not refused
-  pub refused_replies : {P : Type 0} (now : RunState) (words : List Word) (line : List ℕ) (c : syntax.Command) (s : RunState) (a : List ℕ) → IsRight now → IsRefused now words line → Replies task limits now words c s a → P
+  pub refused_replies : {P : Type 0} (now : RunState) (words : List Word) (line : List ℕ) (c : syntax.Command) (s : RunState) (a : List ℕ) → IsRight task now → IsRefused task now words line → Replies task limits now words c s a → P
   refused_replies now words line c s a right (inl (fault, refused, is)) replies = not_both (elaborate now.session words) (answered c s.session) fault replies.elaborated refused
-  refused_replies now words line c s a right (inr (fault, room, is)) replies =
+  refused_replies now words line c s a right (inr (inl (asks, is))) replies =
+      let same : answered c s.session ≡ answered (command.Assert asks.formula) asks.session = ok_once (elaborate now.session words) (answered c s.session) (answered (command.Assert asks.formula) asks.session) replies.elaborated asks.elaborated in
+      let what : c ≡ command.Assert asks.formula = ap (λ (answer : commands.Answer). answer.command) same in
+      let does : Does task limits (command.Assert asks.formula) now.assertions s.assertions = subst (λ (x : syntax.Command). Does task limits x now.assertions s.assertions) what replies.does in
+      absurd (asks.untaken does.0)
+  refused_replies now words line c s a right (inr (inr (fault, room, is))) replies =
       let same : answered c s.session ≡ answered (command.Assert room.formula) room.session = ok_once (elaborate now.session words) (answered c s.session) (answered (command.Assert room.formula) room.session) replies.elaborated room.elaborated in
       let what : c ≡ command.Assert room.formula = ap (λ (answer : commands.Answer). answer.command) same in
       absurd (asserted_not_stopped room.formula now.assertions s.assertions room.after fault (formula_of now words (command.Assert room.formula) room.session right room.elaborated room.formula refl) right.tables room.is_room
-      (subst (λ (x : syntax.Command). Does limits x now.assertions s.assertions) what replies.does) room.stops)
+      (subst (λ (x : syntax.Command). Does task limits x now.assertions s.assertions) what replies.does).1 room.stops)
+
+  -- a command asserts one formula
+  one_formula : (now : RunState) (words : List Word) (f g : Formula) (s t : State) → elaborate now.session words ≡ Ok (answered (command.Assert f) s) → elaborate now.session words ≡ Ok (answered (command.Assert g) t) → f ≡ g
+  one_formula now words f g s t one other =
+      let same : answered (command.Assert f) s ≡ answered (command.Assert g) t = ok_once (elaborate now.session words) (answered (command.Assert f) s) (answered (command.Assert g) t) one other in
+      let what : command.Assert f ≡ command.Assert g = ap (λ (answer : commands.Answer). answer.command) same in
+      cc
+
+  -- the task takes it or does not
+  not_taken : (now : RunState) (words : List Word) (fault : EnterFault) → IsNotTaken task now words → FindsNoRoom task now words fault → ⊥
+  not_taken now words fault asks room = asks.untaken (subst (Takes task) (one_formula now words room.formula asks.formula room.session asks.session room.elaborated asks.elaborated) room.takes)
 
   -- a command is refused in one way
-  pub refused_once : (now : RunState) (words : List Word) (one other : List ℕ) → IsRight now → IsRefused now words one → IsRefused now words other → one ≡ other
+  pub refused_once : (now : RunState) (words : List Word) (one other : List ℕ) → IsRight task now → IsRefused task now words one → IsRefused task now words other → one ≡ other
   refused_once now words one other right (inl (fault, refused, is)) (inl (fault', refused', is')) = is ∙ ap refusal_line (err_once (elaborate now.session words) fault fault' refused refused') ∙ sym is'
-  refused_once now words one other right (inl (fault, refused, is)) (inr (fault', room, is')) = not_both (elaborate now.session words) (answered (command.Assert room.formula) room.session) fault room.elaborated refused
-  refused_once now words one other right (inr (fault, room, is)) (inl (fault', refused', is')) = not_both (elaborate now.session words) (answered (command.Assert room.formula) room.session) fault' room.elaborated refused'
-  refused_once now words one other right (inr (fault, room, is)) (inr (fault', room', is')) =
-      let same : answered (command.Assert room.formula) room.session ≡ answered (command.Assert room'.formula) room'.session = ok_once (elaborate now.session words) (answered (command.Assert room.formula) room.session) (answered (command.Assert room'.formula) room'.session) room.elaborated room'.elaborated in
-      let what : command.Assert room.formula ≡ command.Assert room'.formula = ap (λ (answer : commands.Answer). answer.command) same in
-      let formulas : room.formula ≡ room'.formula = cc in
+  refused_once now words one other right (inl (fault, refused, is)) (inr (inl (asks, is'))) = not_both (elaborate now.session words) (answered (command.Assert asks.formula) asks.session) fault asks.elaborated refused
+  refused_once now words one other right (inl (fault, refused, is)) (inr (inr (fault', room, is'))) = not_both (elaborate now.session words) (answered (command.Assert room.formula) room.session) fault room.elaborated refused
+  refused_once now words one other right (inr (inl (asks, is))) (inl (fault', refused', is')) = not_both (elaborate now.session words) (answered (command.Assert asks.formula) asks.session) fault' asks.elaborated refused'
+  refused_once now words one other right (inr (inl (asks, is))) (inr (inl (asks', is'))) = is ∙ sym is'
+  refused_once now words one other right (inr (inl (asks, is))) (inr (inr (fault', room, is'))) = absurd (not_taken now words fault' asks room)
+  refused_once now words one other right (inr (inr (fault, room, is))) (inl (fault', refused', is')) = not_both (elaborate now.session words) (answered (command.Assert room.formula) room.session) fault' room.elaborated refused'
+  refused_once now words one other right (inr (inr (fault, room, is))) (inr (inl (asks, is'))) = absurd (not_taken now words fault asks room)
+  refused_once now words one other right (inr (inr (fault, room, is))) (inr (inr (fault', room', is'))) =
+      let formulas : room.formula ≡ room'.formula = one_formula now words room.formula room'.formula room.session room'.session room.elaborated room'.elaborated in
       is ∙ ap (room_line words) (stopped_once room.formula now.assertions room.after room'.after fault fault' (formula_of now words (command.Assert room.formula) room.session right room.elaborated room.formula refl) right.tables room.is_room room'.is_room room.stops
       (subst (λ (f : Formula). StopsAssert f now.assertions room'.after fault') (sym formulas) room'.stops)).0 ∙ sym is'
 
   -- what a command leaves is right
-  pub right_after : (now : RunState) (words : List Word) (c : syntax.Command) (s : RunState) (a : List ℕ) → IsRight now → Replies task limits now words c s a → IsRight s
+  pub right_after : (now : RunState) (words : List Word) (c : syntax.Command) (s : RunState) (a : List ℕ) → IsRight task now → Replies task limits now words c s a → IsRight task s
   right_after now words c s a right replies = record {
-    session = (law now.session words (answered c s.session) right.session replies.elaborated).0;
-    tables = does_tables limits c now.assertions s.assertions right.tables (formula_of now words c s.session right replies.elaborated) replies.does;
+    session = (law.keeps now.session words (answered c s.session) right.session replies.elaborated).0;
+    tables = does_tables task limits c now.assertions s.assertions right.tables (formula_of now words c s.session right replies.elaborated) replies.does;
+    suits = suits_after law.ground task limits c now.assertions s.assertions right.suits replies.does;
   }
 
   -- a script has one answer
-  pub answer_once : (known : Bool) (script : Script) (now : RunState) (a b : Answer) → IsRight now → IsAnswer task limits known script now a → IsAnswer task limits known script now b → a ≡ b
+  pub answer_once : (known : Bool) (script : Script) (now : RunState) (a b : Answer) → IsRight task now → IsAnswer task limits known script now a → IsAnswer task limits known script now b → a ≡ b
   unfolding IsAnswer
   answer_once known End now a b right one other = one ∙ sym other
   answer_once known (Fault fault) now a b right one other = one ∙ sym other
@@ -172,7 +225,7 @@ module _ (task : Task) (limits : Limits) (law : KeepsSound) where
       is ∙ ap₂ behind same.2 later ∙ sym is'
 
   -- an answer begins with each front of what is answered
-  pub front_once : (known : Bool) (script : Script) (now : RunState) (front : List ℕ) (answer : Answer) → IsRight now
+  pub front_once : (known : Bool) (script : Script) (now : RunState) (front : List ℕ) (answer : Answer) → IsRight task now
       → IsAnswerFront task limits known script now front → IsAnswer task limits known script now answer → BeginsWith front answer.bytes
   unfolding IsAnswer IsAnswerFront
   front_once known End now front answer right none is = nothing_begins front answer.bytes none

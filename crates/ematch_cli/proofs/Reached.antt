@@ -13,9 +13,9 @@ use Rattle.smt_text.specs.declared.byte_fault.ByteFault.{ByteFault}
 use Rattle.smt_text.specs.declared.byte_fault.ByteFault.TheVariants.{BadByte, Unclosed, Stray, TooDeep, TooLong}
 use Rattle.smt_text.specs.declared.token.Place.{Place}
 use Rattle.smt_names.specs.Names.{at_start}
-use Rattle.smt_commands.specs.SessionLaws.{IsSound, KeepsSound}
 use Rattle.smt_commands.specs.declared.command.Command as syntax
 use Rattle.smt_commands.specs.declared.command.Command.TheVariants.{Exit}
+use Rattle.ematch_cli.specs.RunLaws.{RunLaws}
 use Rattle.ematch_cli.specs.RunState.{RunState}
 use Rattle.ematch_cli.specs.Run.{Replies, IsRefused}
 use Rattle.ematch_cli.specs.Output.{Answer, Ending, Open, Finished, Failed, IsAnswer, BeginsWith, IsAnswerFront, behind, failure, last, silence, at_end, opening, IsOutputSoFar}
@@ -76,15 +76,15 @@ module _ (task : Task) (limits : Limits) where
   front_behind known (words ∷ commands) rest state later text front (command, mid, first, others, goes, one, all, is) begun =
       inr (inr (inr (command, mid, first, others ++ front, goes, one, front_behind known commands rest mid later others front all begun, ap (λ (t : List ℕ). t ++ front) is ∙ append_assoc first others front)))
 
-  module _ (law : KeepsSound) where
+  module _ (law : RunLaws) where
     -- what the commands leave is right
-    pub right_after_all : (commands : List (List Word)) (state later : RunState) (text : List ℕ) → IsRight state → RepliesAll task limits state commands later text → IsRight later
-    right_after_all [] state later text right (is, none) = subst IsRight (sym is) right
+    pub right_after_all : (commands : List (List Word)) (state later : RunState) (text : List ℕ) → IsRight task state → RepliesAll task limits state commands later text → IsRight task later
+    right_after_all [] state later text right (is, none) = subst (IsRight task) (sym is) right
     right_after_all (words ∷ commands) state later text right (command, mid, first, others, goes, one, all, is) = right_after_all commands mid later others (right_after task limits law state words command mid first right one) all
 
     -- and only that is answered
     behind_only : (known : Bool) (commands : List (List Word)) (rest : Script) (state later : RunState) (text : List ℕ) (answer : Answer)
-        → IsRight state → RepliesAll task limits state commands later text → IsAnswer task limits known (commands_then commands rest) state answer → (after : Answer) × IsAnswer task limits known rest later after × (answer ≡ behind text after)
+        → IsRight task state → RepliesAll task limits state commands later text → IsAnswer task limits known (commands_then commands rest) state answer → (after : Answer) × IsAnswer task limits known rest later after × (answer ≡ behind text after)
     unfolding IsAnswer
     behind_only known [] rest state later text answer right (is, none) answered =
         (answer, subst (λ (s : RunState). IsAnswer task limits known rest s answer) (sym is) answered, ap (λ (t : List ℕ). behind t answer) (sym none))
@@ -98,8 +98,7 @@ module _ (task : Task) (limits : Limits) where
 
 -- The bytes taken so far are commands, all of which were answered; what comes of more goes on behind them.
 pub record Reached (task : Task) (limits : Limits) (in0 in1 out0 out1 : Option (List ℕ)) (now : RunState) (rest : List ℕ → Script) : Type 0 where
-  pub law : KeepsSound
-  pub sound : IsSound (at_start limits)
+  pub law : RunLaws
   pub taken : List ℕ
   pub given : Consumes in0 in1 taken
   pub commands : List (List Word)
@@ -111,10 +110,9 @@ pub record Reached (task : Task) (limits : Limits) (in0 in1 out0 out1 : Option (
 abbrev pub ahead : Reading → List ℕ → Script
 ahead reader more = script reader (reader.held ++ more)
 
-abbrev pub reached_start : KeepsSound → (task : Task) (limits : Limits) (input out : Option (List ℕ)) → IsSound (at_start limits) → Reached task limits input input out out (opening limits) (ahead (start limits))
-reached_start law task limits input out sound = record {
+abbrev pub reached_start : RunLaws → (task : Task) (limits : Limits) (input out : Option (List ℕ)) → Reached task limits input input out out (opening limits) (ahead (start limits))
+reached_start law task limits input out = record {
   law = law;
-  sound = sound;
   taken = [];
   given = Consumes-none input;
   commands = [];
@@ -129,7 +127,6 @@ abbrev pub reached_read : (task : Task) (limits : Limits) (in0 in1 in2 out0 out1
     → Consumes in1 in2 taken → Reached task limits in0 in2 out0 out1 now (λ more. script reader ((reader.held ++ taken) ++ more))
 reached_read task limits in0 in1 in2 out0 out1 now reader taken reached given = record {
   law = reached.law;
-  sound = reached.sound;
   taken = reached.taken ++ taken;
   given = Consumes-then in0 in1 in2 reached.taken taken reached.given given;
   commands = reached.commands;
@@ -145,7 +142,6 @@ abbrev pub reached_reply : (task : Task) (limits : Limits) (in0 in1 out0 out1 ou
     → Reached task limits in0 in1 out0 out1 now rest → ((more : List ℕ) → rest more ≡ Command words (next more)) → command ≢ Exit → Replies task limits now words command later text → Appended out1 out2 text → Reached task limits in0 in1 out0 out2 later next
 reached_reply task limits in0 in1 out0 out1 out2 now later words command text rest next reached first goes replies wrote = record {
   law = reached.law;
-  sound = reached.sound;
   taken = reached.taken;
   given = reached.given;
   commands = reached.commands ++ words ∷ [];
@@ -173,15 +169,15 @@ module _ (task : Task) (limits : Limits) (in0 in1 out0 out1 : Option (List ℕ))
   -- and there is no other
   pub answered_only : (known : Bool) (answer : Answer) → IsAnswer task limits known (script_of limits reached.taken) (opening limits) answer → (after : Answer) × IsAnswer task limits known (rest []) now after × (answer ≡ behind reached.text after)
   answered_only known answer is =
-      behind_only task limits reached.law known reached.commands (rest []) (opening limits) now reached.text answer (right_opening limits reached.sound) reached.replied (subst (λ (s : Script). IsAnswer task limits known s (opening limits) answer) at_taken is)
+      behind_only task limits reached.law known reached.commands (rest []) (opening limits) now reached.text answer (right_opening reached.law task limits) reached.replied (subst (λ (s : Script). IsAnswer task limits known s (opening limits) answer) at_taken is)
 
   -- where what is left is answered by this alone, so is all that was taken
   pub ends_only : (known : Bool) (end answer : Answer) → ((after : Answer) → IsAnswer task limits known (rest []) now after → after ≡ end) → IsAnswer task limits known (script_of limits reached.taken) (opening limits) answer → answer.ending ≡ end.ending
   ends_only known end answer only is = let inner = answered_only known answer is in ap (λ (a : Answer). a.ending) inner.2 ∙ ap (λ (a : Answer). a.ending) (only inner.0 inner.1)
 
   -- what stands is right
-  pub right_now : IsRight now
-  right_now = right_after_all task limits reached.law reached.commands (opening limits) now reached.text (right_opening limits reached.sound) reached.replied
+  pub right_now : IsRight task now
+  right_now = right_after_all task limits reached.law reached.commands (opening limits) now reached.text (right_opening reached.law task limits) reached.replied
 
   -- a front of what answers what is left is one of all behind the text
   pub front_taken : (known : Bool) (front : List ℕ) → IsAnswerFront task limits known (rest []) now front → IsAnswerFront task limits known (script_of limits reached.taken) (opening limits) (reached.text ++ front)
@@ -259,7 +255,7 @@ module _ (task : Task) (limits : Limits) where
   unfolding IsAnswer
   end_only known now after answered = answered
 
-  pub refused_answer : (known : Bool) (words : List Word) (rest : Script) (now : RunState) (line : List ℕ) → IsRefused now words line → IsAnswer task limits known (Command words rest) now (failure line)
+  pub refused_answer : (known : Bool) (words : List Word) (rest : Script) (now : RunState) (line : List ℕ) → IsRefused task now words line → IsAnswer task limits known (Command words rest) now (failure line)
   unfolding IsAnswer
   refused_answer known words rest now line refused = inl (line, refused, refl)
 
@@ -284,7 +280,7 @@ module _ (task : Task) (limits : Limits) where
   unclosed_front now place front begins = begins
 
   -- of the line of a refusal
-  pub refused_front : (known : Bool) (words : List Word) (rest : Script) (now : RunState) (line front : List ℕ) → IsRefused now words line → BeginsWith front line → IsAnswerFront task limits known (Command words rest) now front
+  pub refused_front : (known : Bool) (words : List Word) (rest : Script) (now : RunState) (line front : List ℕ) → IsRefused task now words line → BeginsWith front line → IsAnswerFront task limits known (Command words rest) now front
   unfolding IsAnswerFront
   refused_front known words rest now line front refused begins = inr (inl (line, refused, begins))
 

@@ -2,6 +2,7 @@ pub mod Joined
 pub mod Listing
 pub mod RunState
 pub mod ErrorLine
+pub mod Takes
 pub mod Response
 pub mod Run
 pub mod Status
@@ -9,3 +10,4 @@ pub mod Output
 pub mod Headline
 pub mod WritesError
 pub mod Reply
+pub mod RunLaws

@@ -56,7 +56,7 @@ unfoldable pub IsAnswer : Task → Limits → (known : Bool) → Script → RunS
 IsAnswer task limits known End state answer = answer ≡ at_end known
 IsAnswer task limits known (Fault fault) state answer = answer ≡ at_fault known fault
 IsAnswer task limits known (Command words rest) state answer =
-    ((line : List ℕ) × IsRefused state words line × (answer ≡ failure line))
+    ((line : List ℕ) × IsRefused task state words line × (answer ≡ failure line))
     ⊎ (((later : RunState) × (text : List ℕ) × Replies task limits state words Exit later text
     × (answer ≡ last text Finished))
     ⊎ ((command : syntax.Command) × (later : RunState) × (text : List ℕ) × (after : Answer)
@@ -75,7 +75,7 @@ IsAnswerFront task limits known End state bytes = bytes ≡ []
 IsAnswerFront task limits known (Fault fault) state bytes = BeginsWith bytes (at_fault known fault).bytes
 IsAnswerFront task limits known (Command words rest) state bytes =
     (bytes ≡ [])
-    ⊎ (((line : List ℕ) × IsRefused state words line × BeginsWith bytes line)
+    ⊎ (((line : List ℕ) × IsRefused task state words line × BeginsWith bytes line)
     ⊎ (((command : syntax.Command) × (later : RunState) × (text : List ℕ)
     × Replies task limits state words command later text × BeginsWith bytes text)
     ⊎ ((command : syntax.Command) × (later : RunState) × (text : List ℕ) × (more : List ℕ)

@@ -1,5 +1,5 @@
 -- What a call leaves that answers a command.
-use Rattle.std.specs.Prelude.{◌≡◌, ◌≢◌, ◌↔◌, IsTrue, List, ℕ}
+use Rattle.std.specs.Prelude.{◌≡◌, ◌≢◌, ◌⊎◌, ◌↔◌, IsTrue, List, ℕ, codes}
 use Rattle.em_outside.specs.declared.limits.Limits.{Limits}
 use Rattle.smt_text.specs.Word.{Word}
 use Rattle.smt_commands.specs.declared.command.Command.{Command}
@@ -11,9 +11,13 @@ use Rattle.formula_assert.specs.Assertions.{Assertions}
 use Rattle.formula_assert.specs.AssertFormula.{StopsAssert}
 use Rattle.smt_names.specs.declared.stop.Stop.{Stop}
 use Rattle.smt_names.specs.declared.stop.Stop.TheVariants as stop
-use Rattle.ematch_cli.specs.ErrorLine.{refusal_line, room_line}
+use Rattle.search_check.specs.declared.outcome.Outcome.{Outcome}
+use Rattle.search_check.specs.declared.outcome.Outcome.TheVariants.{Unsat, Sat}
+use Rattle.ematch_cli.specs.ErrorLine.{refusal_line, room_line, unbuilt_line}
+use Rattle.ematch_cli.specs.Listing.{line}
 use Rattle.ematch_cli.specs.Run.{Replies, IsRefused}
 use Rattle.ematch_cli.specs.RunState.{RunState}
+use Rattle.ematch_cli.specs.Takes.{Takes}
 use Rattle.ematch_cli.specs.declared.reply.Reply.{Reply}
 use Rattle.em_words.specs.declared.task.Task.{Task}
 use Rattle.ematch_cli.specs.declared.unanswered.Unanswered.{Unanswered}
@@ -27,9 +31,9 @@ pub record IsReply (task : Task) (limits : Limits) (before : RunState) (words : 
   pub exits : IsTrue reply.exits ↔ (command ≡ Exit)
 
 -- the words are refused with the line, or memory was, which is free
-abbrev pub IsUnanswered : RunState → List Word → Unanswered → Type 0
-IsUnanswered before words (Refused line) = IsRefused before words line.items
-IsUnanswered before words Memory = Unit {0}
+abbrev pub IsUnanswered : Task → RunState → List Word → Unanswered → Type 0
+IsUnanswered task before words (Refused line) = IsRefused task before words line.items
+IsUnanswered task before words Memory = Unit {0}
 
 -- the line says that there is no room for the formula, or memory was refused
 abbrev pub FindsNoRoomFor : Formula → Assertions → List Word → Unanswered → Type 0
@@ -38,10 +42,23 @@ FindsNoRoomFor formula before words (Refused line) =
     × (fault ≢ enter.Memory) × (line.items ≡ room_line words fault)
 FindsNoRoomFor formula before words Memory = Unit {0}
 
--- so does the command, where it asserts a formula
-abbrev pub IsWithoutRoom : Command → Assertions → List Word → Unanswered → Type 0
-IsWithoutRoom (Assert formula) before words unanswered = FindsNoRoomFor formula before words unanswered
-IsWithoutRoom command before words unanswered = unanswered ≡ Memory
+-- the line says that the task does not take the formula, or it takes it and there is no room for it; or memory was
+-- refused
+abbrev pub IsUnasserted : Task → Formula → Assertions → List Word → Unanswered → Type 0
+IsUnasserted task formula before words (Refused line) =
+    ((Takes task formula → ⊥) × (line.items ≡ unbuilt_line words))
+    ⊎ (Takes task formula × FindsNoRoomFor formula before words (Refused line))
+IsUnasserted task formula before words Memory = Unit {0}
+
+-- so it is with the command, where it asserts a formula
+abbrev pub IsUndone : Task → Command → Assertions → List Word → Unanswered → Type 0
+IsUndone task (Assert formula) before words unanswered = IsUnasserted task formula before words unanswered
+IsUndone task command before words unanswered = unanswered ≡ Memory
+
+-- the line of how a search ended
+abbrev pub outcome_line : Outcome → List ℕ
+outcome_line Unsat = line (codes "unsat")
+outcome_line (Sat kept) = line (codes "sat")
 
 -- the line of a refusal, or memory was refused
 abbrev pub IsUnread : Stop → Unanswered → Type 0

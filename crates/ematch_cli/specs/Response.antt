@@ -7,9 +7,12 @@ use Rattle.smt_commands.specs.declared.info.Info.{Info}
 use Rattle.smt_commands.specs.declared.info.Info.TheVariants as info
 use Rattle.ematch_cli.specs.Listing.{line, IsListing}
 use Rattle.em_printing.specs.Names.{names_of}
+use Rattle.formula_assert.specs.Assertions.{Assertions, held_of}
+use Rattle.search_laws.specs.Branch.{first_branch}
+use Rattle.search_laws.specs.Verdict.{Ending, unsat, sat, Verdict}
 use Rattle.ematch_cli.specs.RunState.{RunState}
 use Rattle.em_words.specs.declared.task.Task.{Task}
-use Rattle.em_words.specs.declared.task.Task.TheVariants.{Matches}
+use Rattle.em_words.specs.declared.task.Task.TheVariants.{Matches, Solve}
 
 -- the line `success`, where it is printed
 abbrev pub success : Bool → List ℕ
@@ -29,9 +32,21 @@ info_text info.Levels levels = line (codes "(:assertion-stack-levels " ++ decima
 info_text info.ReasonUnknown levels = unsupported
 info_text info.Other levels = unsupported
 
+-- the line of how a search ends
+abbrev pub verdict_line : Ending → List ℕ
+verdict_line unsat = line (codes "unsat")
+verdict_line (sat last) = line (codes "sat")
+
+-- the search of what is asserted ends, and its line says how
+pub record IsSearched (now : Assertions) (text : List ℕ) : Type 0 where
+  pub ending : Ending
+  pub verdict : Verdict now.formulas (first_branch (held_of now)) ending
+  pub is : text ≡ verdict_line ending
+
 -- what a task answers to `check-sat`
 abbrev pub IsCheckResponse : Task → RunState → List ℕ → Type 0
 IsCheckResponse Matches after text = IsListing (names_of after.session) after.assertions.graph.standing text
+IsCheckResponse Solve after text = IsSearched after.assertions text
 
 -- `success` is printed as the option stands after the command, but at `reset` as it stood before
 abbrev pub IsResponse : Task → Command → RunState → RunState → List ℕ → Type 0

@@ -12,9 +12,10 @@ use Rattle.smt_names.specs.declared.syntax_fault.SyntaxFault.{SyntaxFault}
 use Rattle.smt_commands.specs.Commands.{Answer, elaborate}
 use Rattle.smt_commands.specs.declared.command.Command.{Command}
 use Rattle.smt_commands.specs.declared.command.Command.TheVariants as command
-use Rattle.ematch_cli.specs.ErrorLine.{refusal_line, room_line}
+use Rattle.ematch_cli.specs.ErrorLine.{refusal_line, room_line, unbuilt_line}
 use Rattle.ematch_cli.specs.Response.{IsResponse}
 use Rattle.ematch_cli.specs.RunState.{RunState}
+use Rattle.ematch_cli.specs.Takes.{Takes}
 use Rattle.em_words.specs.declared.task.Task.{Task}
 
 -- so many times
@@ -22,19 +23,19 @@ abbrev pub repeated : ℕ → (Assertions → Assertions) → Assertions → Ass
 repeated zero change now = now
 repeated (suc n) change now = repeated n change (change now)
 
--- What a command does to the standing assertions: a formula is asserted, levels are opened or closed, or all are
--- forgotten.
-abbrev pub Does : Limits → Command → Assertions → Assertions → Type 0
-Does limits (command.Assert formula) before after = AssertsFormula formula before after
-Does limits (command.Push count) before after = after ≡ repeated count pushed before
-Does limits (command.Pop count) before after = after ≡ repeated count popped before
-Does limits command.Reset before after = after ≡ no_assertions limits.terms limits.nodes
-Does limits command.ResetAssertions before after = after ≡ no_assertions limits.terms limits.nodes
-Does limits command.Silent before after = after ≡ before
-Does limits command.Unsupported before after = after ≡ before
-Does limits command.CheckSat before after = after ≡ before
-Does limits (command.GetInfo info) before after = after ≡ before
-Does limits command.Exit before after = after ≡ before
+-- What a command does to the standing assertions: a formula that the task takes is asserted, levels are opened or
+-- closed, or all are forgotten.
+abbrev pub Does : Task → Limits → Command → Assertions → Assertions → Type 0
+Does task limits (command.Assert formula) before after = Takes task formula × AssertsFormula formula before after
+Does task limits (command.Push count) before after = after ≡ repeated count pushed before
+Does task limits (command.Pop count) before after = after ≡ repeated count popped before
+Does task limits command.Reset before after = after ≡ no_assertions limits.terms limits.nodes
+Does task limits command.ResetAssertions before after = after ≡ no_assertions limits.terms limits.nodes
+Does task limits command.Silent before after = after ≡ before
+Does task limits command.Unsupported before after = after ≡ before
+Does task limits command.CheckSat before after = after ≡ before
+Does task limits (command.GetInfo info) before after = after ≡ before
+Does task limits command.Exit before after = after ≡ before
 
 -- what a command answers, with the session after it
 abbrev pub answered : Command → State → Answer
@@ -44,20 +45,30 @@ answered command state = record { command = command; state = state }
 pub record Replies (task : Task) (limits : Limits) (before : RunState) (words : List Word) (command : Command)
     (after : RunState) (text : List ℕ) : Type 0 where
   pub elaborated : elaborate before.session words ≡ Ok (answered command after.session)
-  pub does : Does limits command before.assertions after.assertions
+  pub does : Does task limits command before.assertions after.assertions
   pub responds : IsResponse task command before after text
 
 -- The words assert a formula for which there is no room.
-pub record FindsNoRoom (before : RunState) (words : List Word) (fault : EnterFault) : Type 0 where
+pub record FindsNoRoom (task : Task) (before : RunState) (words : List Word) (fault : EnterFault) : Type 0 where
   pub formula : Formula
   pub session : State
   pub elaborated : elaborate before.session words ≡ Ok (answered (command.Assert formula) session)
+  pub takes : Takes task formula
   pub after : Assertions
   pub stops : StopsAssert formula before.assertions after fault
   pub is_room : fault ≢ Memory
 
--- The command is refused with this line: as it is read, or because there is no room for what it asserts.
-abbrev pub IsRefused : RunState → List Word → List ℕ → Type 0
-IsRefused before words text =
+-- The words assert a formula that the task does not take.
+pub record IsNotTaken (task : Task) (before : RunState) (words : List Word) : Type 0 where
+  pub formula : Formula
+  pub session : State
+  pub elaborated : elaborate before.session words ≡ Ok (answered (command.Assert formula) session)
+  pub untaken : Takes task formula → ⊥
+
+-- The command is refused with this line: as it is read, or because the task does not take what it asserts, or because
+-- there is no room for it.
+abbrev pub IsRefused : Task → RunState → List Word → List ℕ → Type 0
+IsRefused task before words text =
     ((fault : SyntaxFault) × (elaborate before.session words ≡ Err fault) × (text ≡ refusal_line fault))
-    ⊎ ((fault : EnterFault) × FindsNoRoom before words fault × (text ≡ room_line words fault))
+    ⊎ ((IsNotTaken task before words × (text ≡ unbuilt_line words))
+    ⊎ ((fault : EnterFault) × FindsNoRoom task before words fault × (text ≡ room_line words fault)))

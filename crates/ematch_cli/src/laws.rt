@@ -2,16 +2,28 @@
 ghost use Rattle.std.specs.Prelude.{◌≡◌, ℕ, true, false, List};
 ghost use Rattle.em_outside.specs.declared.limits.Limits.{Limits};
 ghost use Rattle.ematch_cli.specs.Output.{Answer, BeginsWith, IsOutput, IsOutputSoFar, IsFrontOf};
+ghost use Rattle.ematch_cli.specs.RunLaws.{RunLaws};
 ghost use Rattle.em_words.specs.declared.task.Task.{Task};
 
+use formula_assert::laws::ground_law;
+use search_laws::laws::one_verdict_law;
 use smt_commands::laws::session_law;
+
+/// The laws of the crates below that a run stands on.
+pub(crate) fn run_law()
+    ensures { RunLaws }
+{
+    session_law();
+    ground_law();
+    one_verdict_law();
+}
 
 /// A script has one answer at most, and so have the bytes of a script so far.
 pub fn one_answer()
     ensures output { (task : Task) (limits : Limits) (bytes : List ℕ) (a b : Answer) → IsOutput task limits bytes a → IsOutput task limits bytes b → a ≡ b }
     ensures so_far { (task : Task) (limits : Limits) (bytes : List ℕ) (a b : Answer) → IsOutputSoFar task limits bytes a → IsOutputSoFar task limits bytes b → a ≡ b }
 {
-    session_law();
+    run_law();
 }
 
 /// Where bytes are a front of what is answered to a script, or to its bytes so far, the answer begins with them.
@@ -21,5 +33,5 @@ pub fn front_law()
     ensures so_far { (task : Task) (limits : Limits) (bytes front : List ℕ) (answer : Answer)
         → IsFrontOf task limits false bytes front → IsOutputSoFar task limits bytes answer → BeginsWith front answer.bytes }
 {
-    session_law();
+    run_law();
 }

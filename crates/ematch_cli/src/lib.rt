@@ -10,6 +10,7 @@ mod run;
 mod script;
 mod status;
 mod unanswered;
+mod verdict;
 
 pub use laws::{front_law, one_answer};
 pub use run::{report, run_alone};

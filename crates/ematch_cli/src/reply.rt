@@ -7,12 +7,15 @@ ghost use Rattle.smt_commands.specs.declared.command.Command.TheVariants.{Exit};
 ghost use Rattle.ematch_cli.specs.Run.{repeated, Does};
 ghost use Rattle.ematch_cli.specs.Response.{IsCheckResponse, IsResponse};
 ghost use Rattle.ematch_cli.specs.RunState.{RunState, run_state};
-ghost use Rattle.ematch_cli.specs.Reply.{IsReply, IsUnanswered, FindsNoRoomFor, IsWithoutRoom, IsUnread};
+ghost use Rattle.ematch_cli.specs.Reply.{IsReply, IsUnanswered, FindsNoRoomFor, IsUnasserted, IsUndone, IsUnread};
+ghost use Rattle.ematch_cli.specs.Takes.{Takes, Suits};
 
-use crate::error_line::{refusal_line, room_line};
+use crate::error_line::{refusal_line, room_line, unbuilt_line};
+use crate::laws::run_law;
 use crate::listing::listing;
 use crate::response::{info_text, success, unsupported};
 use crate::unanswered::Unanswered;
+use crate::verdict::verdict;
 use em_outside::Limits;
 use em_words::Task;
 use formula_assert::AssertionStack;
@@ -69,8 +72,18 @@ fn forget(alloc: Global, limits: &Limits, stack: &mut AssertionStack) -> Result<
     Ok(())
 }
 
+/// Whether the task takes the formula: where it searches, the formula holds no forall.
+fn takes(task: Task, formula: &Formula) -> bool
+    ensures { IsTrue result ↔ Takes task formula.now }
+{
+    match task {
+        Task::Matches => true,
+        Task::Solve => formula.foralls() == 0,
+    }
+}
+
 /// Asserts a formula, or gives the line that says that there is no room for it.
-fn assert_formula(
+fn assert_taken(
     alloc: Global,
     stack: &mut AssertionStack,
     tree: &Tree,
@@ -89,20 +102,39 @@ fn assert_formula(
     }
 }
 
+/// Asserts a formula, or gives the line that says that the task does not take it, or that there is no room for it.
+fn assert_formula(
+    alloc: Global,
+    task: Task,
+    stack: &mut AssertionStack,
+    tree: &Tree,
+    formula: &Formula,
+) -> Result<(), Unanswered>
+    ensures ok { OnOk result (Takes task formula.now × AssertsFormula formula.now stack.old stack.new) }
+    ensures refused { IfErr result (IsUnasserted task formula.now stack.old tree.now) }
+{
+    if !takes(task, formula) {
+        let line = unbuilt_line(alloc, tree)?;
+        return Err(Unanswered::Refused { line });
+    }
+    assert_taken(alloc, stack, tree, formula)
+}
+
 /// Does what a command says to the standing assertions.
 fn perform(
     alloc: Global,
+    task: Task,
     limits: &Limits,
     stack: &mut AssertionStack,
     tree: &Tree,
     command: &Command,
 ) -> Result<(), Unanswered>
     requires { AreLawful limits.now }
-    ensures ok { OnOk result (Does limits.now command.now stack.old stack.new) }
-    ensures refused { IfErr result (IsWithoutRoom command.now stack.old tree.now) }
+    ensures ok { OnOk result (Does task limits.now command.now stack.old stack.new) }
+    ensures refused { IfErr result (IsUndone task command.now stack.old tree.now) }
 {
     match command {
-        Command::Assert { formula } => assert_formula(alloc, stack, tree, formula),
+        Command::Assert { formula } => assert_formula(alloc, task, stack, tree, formula),
         Command::Push { count } => {
             push_levels(stack, *count)?;
             Ok(())
@@ -128,12 +160,15 @@ fn check_response(
     alloc: Global,
     task: Task,
     session: &Session,
-    stack: &AssertionStack,
+    stack: &mut AssertionStack,
 ) -> Result<Vec<u8>, Memory>
-    ensures { IfOk result (λ text. IsCheckResponse task (run_state session.now stack.now) text.items) }
+    requires { Suits task stack.old }
+    ensures value { IfOk result (λ text. IsCheckResponse task (run_state session.now stack.old) text.items) }
+    ensures same { stack.new ≡ stack.old }
 {
     match task {
         Task::Matches => listing(alloc, session, stack.graph()),
+        Task::Solve => verdict(alloc, stack),
     }
 }
 
@@ -142,11 +177,13 @@ fn respond(
     alloc: Global,
     task: Task,
     session: &Session,
-    stack: &AssertionStack,
+    stack: &mut AssertionStack,
     command: &Command,
     prints: bool,
 ) -> Result<Vec<u8>, Memory>
-    ensures { IfOk result (λ text. (before : RunState) → before.session.prints_success ≡ prints → IsResponse task command.now before (run_state session.now stack.now) text.items) }
+    requires { Suits task stack.old }
+    ensures value { IfOk result (λ text. (before : RunState) → before.session.prints_success ≡ prints → IsResponse task command.now before (run_state session.now stack.old) text.items) }
+    ensures same { stack.new ≡ stack.old }
 {
     match command {
         Command::Unsupported => Ok(Vec::from_slice(alloc, unsupported())?),
@@ -194,14 +231,16 @@ pub(crate) fn answer_command(
     stack: &mut AssertionStack,
     tree: &Tree,
 ) -> Result<Reply, Unanswered>
-    requires { AreLawful limits.now }
+    requires limits { AreLawful limits.now }
+    requires suits { Suits task stack.old }
     ensures ok { IfOk result (λ reply. IsReply task limits.now (run_state session.old stack.old) tree.now (run_state session.new stack.new) reply) }
-    ensures refused { IfErr result (IsUnanswered (run_state session.old stack.old) tree.now) }
+    ensures refused { IfErr result (IsUnanswered task (run_state session.old stack.old) tree.now) }
 {
+    run_law();
     let prints = session.prints_success();
     match session.command(tree) {
         Err(stop) => Err(unread(alloc, &stop)),
-        Ok(command) => match perform(alloc, limits, stack, tree, &command) {
+        Ok(command) => match perform(alloc, task, limits, stack, tree, &command) {
             Err(unanswered) => Err(unanswered),
             Ok(()) => {
                 let text = respond(alloc, task, session, stack, &command, prints)?;

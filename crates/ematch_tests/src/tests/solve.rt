@@ -78,6 +78,16 @@ const ERRORS: &[(&str, &str)] = &[
         "(check-sat) (assert (and q (forall ((x U)) (! (p x) :pattern ((p x))))))(check-sat)",
         "sat\n(error \"line 2 column 13: not built yet\")\n",
     ),
+    // also in a let that nothing uses
+    (
+        "(assert (let ((h (forall ((x U)) (! (p x) :pattern ((p x)))))) (p a)))",
+        "(error \"line 2 column 1: not built yet\")\n",
+    ),
+    // and after the command was read as any other
+    (
+        "(assert (forall ((x U)) (! (p y) :pattern ((p x)))))",
+        "(error \"line 2 column 31: unknown name y\")\n",
+    ),
 ];
 
 #[test]

@@ -10,7 +10,7 @@ use Rattle.ematch_cli.specs.Run.{Replies}
 use Rattle.ematch_cli.specs.Output.{opening}
 use Rattle.ematch_cli.specs.Headline.{Answers, WroteFront}
 use Rattle.ematch_cli.specs.WritesError.{WritesError}
-use Rattle.ematch_cli.proofs.Reached.{Reached, ahead, reached_start}
+use Rattle.ematch_cli.proofs.Reached.{Reached, ahead, reached_start, right_now}
 use Rattle.ematch_cli.proofs.Exits.{done, outside, reply_memory, write_fault, next, exit, refused_command, refused_bytes}
 use Rattle.ematch_cli.proofs.script.answer_all.Goals as goal
 
@@ -24,7 +24,7 @@ loop-tree-init g c =
       reached = subst (λ (now : RunState). Reached task limits left left written written now (ahead c.args.reader.now))
           (sym (ap (λ (s : State). run_state s c.args.stack.now) c.requires.session ∙ ap (λ (s : Assertions). run_state (at_start limits) s) c.requires.stack))
           (subst (λ (reader : Reading). Reached task limits left left written written (opening limits) (ahead reader)) (sym c.requires.reader)
-          (reached_start c.session_law.ensures.keeps task limits left written (c.session_law.ensures.starts limits)));
+          (reached_start c.run_law.ensures task limits left written));
       no_fault = ap (λ (r : Reading). r.fault) c.requires.reader;
       limits = ap (λ (r : Reading). r.limits) c.requires.reader;
       input_later = omega (arith);
@@ -32,6 +32,11 @@ loop-tree-init g c =
       input_quiet = refl;
       out_quiet = refl;
     }
+
+pub answer_command-requires-clause-suits : goal.answer_command-requires-clause-suits
+answer_command-requires-clause-suits g c =
+    (right_now c.args.task c.args.limits.now (g.I.Source.left c.args.input.now) (g.I.Source.left c.loop-tree.input) (g.O.Sink.written c.args.out.now) (g.O.Sink.written c.loop-tree.out)
+    (run_state c.loop-tree.session c.loop-tree.stack) (ahead c.loop-tree.reader) c.loop-tree.invariant.reached).suits
 
 pub returns-then-not-write_text-clause-answers : goal.returns-then-not-write_text-clause-answers
 returns-then-not-write_text-clause-answers g c =
