@@ -22,6 +22,7 @@ const WORLDS: [u64; 6] = [
 const POSSIBLE: u64 = 0x9797_9797_9797_9797;
 
 /// Numbers that look random, from a seed.
+#[derive(Drop)]
 struct Random {
     state: u64,
 }
@@ -89,33 +90,67 @@ fn formula(alloc: Global, random: &mut Random, depth: u32) -> Result<Shape, Allo
     joined(alloc, choice, one, other)
 }
 
-/// A script of assertions in levels, each followed by a check, and the verdicts.
-fn script(alloc: Global, seed: u64) -> Result<(String, String), AllocError> {
-    let mut random = Random { state: seed };
-    let mut text = String::new(alloc);
-    let mut answer = String::new(alloc);
-    let mut worlds = POSSIBLE;
-    let mut saved: Vec<u64> = Vec::new(alloc);
-    for _ in 0..10 {
-        let choice = random.below(5);
-        if choice == 0 {
-            saved.push(worlds)?;
-            text.push_str("(push 1)")?;
-        } else if choice == 1 {
-            if let Some(before) = saved.pop() {
-                worlds = before;
-                text.push_str("(pop 1)")?;
-            }
-        } else {
-            let shape = formula(alloc, &mut random, 2)?;
-            worlds &= shape.worlds;
-            let line = format!(in alloc; "(assert {})", shape.text)?;
-            text.push_str(line.as_str())?;
-        }
-        text.push_str("(check-sat)\n")?;
-        answer.push_str(if worlds == 0 { "unsat\n" } else { "sat\n" })?;
+/// A script so far, its verdicts, the worlds in which all that stands is true, and those of each open level.
+#[derive(Drop)]
+struct Script {
+    text: String,
+    answer: String,
+    worlds: u64,
+    saved: Vec<u64>,
+}
+
+/// A formula is asserted.
+fn assert_one(alloc: Global, random: &mut Random, script: &mut Script) -> Result<(), AllocError> {
+    let shape = formula(alloc, random, 2)?;
+    script.worlds &= shape.worlds;
+    let line = format!(in alloc; "(assert {})", shape.text)?;
+    script.text.push_str(line.as_str())
+}
+
+/// A level is opened.
+fn open_level(script: &mut Script) -> Result<(), AllocError> {
+    script.saved.push(script.worlds)?;
+    script.text.push_str("(push 1)")
+}
+
+/// The last level ends, if one is open.
+fn end_level(script: &mut Script) -> Result<(), AllocError> {
+    if let Some(before) = script.saved.pop() {
+        script.worlds = before;
+        script.text.push_str("(pop 1)")?;
     }
-    Ok((text, answer))
+    Ok(())
+}
+
+/// A check, with its verdict.
+fn check_now(script: &mut Script) -> Result<(), AllocError> {
+    script.text.push_str("(check-sat)\n")?;
+    let verdict = if script.worlds == 0 {
+        "unsat\n"
+    } else {
+        "sat\n"
+    };
+    script.answer.push_str(verdict)
+}
+
+/// A script of assertions in levels, each followed by a check.
+fn script_of(alloc: Global, seed: u64) -> Result<Script, AllocError> {
+    let mut random = Random { state: seed };
+    let mut script = Script {
+        text: String::new(alloc),
+        answer: String::new(alloc),
+        worlds: POSSIBLE,
+        saved: Vec::new(alloc),
+    };
+    for _ in 0..10 {
+        match random.below(5) {
+            0 => open_level(&mut script)?,
+            1 => end_level(&mut script)?,
+            _ => assert_one(alloc, &mut random, &mut script)?,
+        }
+        check_now(&mut script)?;
+    }
+    Ok(script)
 }
 
 #[test]
@@ -124,8 +159,8 @@ fn random_ground_scripts_are_sat_where_a_world_makes_them_true(
 ) -> Result<(), Fail> {
     let alloc = rt.alloc();
     for seed in 0..40u64 {
-        let (text, answer) = script(alloc, seed)?;
-        let answers = [(text.as_str(), answer.as_str())];
+        let script = script_of(alloc, seed)?;
+        let answers = [(script.text.as_str(), script.answer.as_str())];
         check_answers(&rt, alloc, &Limits::standard(), "solve", DECLARED, &answers, 0)?;
     }
     Ok(())
