@@ -88,7 +88,15 @@ pub(super) const ANSWERS: &[(&str, &str)] = &[
 
 #[test]
 fn scripts_have_their_answers_also_byte_by_byte(rt: HostRuntime) -> Result<(), Fail> {
-    check_answers(&rt, rt.alloc(), &Limits::standard(), "matches", DECLARED, ANSWERS, 0)
+    check_answers(
+        &rt,
+        rt.alloc(),
+        &Limits::standard(),
+        "matches",
+        DECLARED,
+        ANSWERS,
+        0,
+    )
 }
 
 /// Scripts without an error, and their responses.
@@ -124,5 +132,13 @@ const RESPONSES: &[(&str, &str)] = &[
 
 #[test]
 fn commands_have_their_responses(rt: HostRuntime) -> Result<(), Fail> {
-    check_answers(&rt, rt.alloc(), &Limits::standard(), "matches", "", RESPONSES, 0)
+    check_answers(
+        &rt,
+        rt.alloc(),
+        &Limits::standard(),
+        "matches",
+        "",
+        RESPONSES,
+        0,
+    )
 }

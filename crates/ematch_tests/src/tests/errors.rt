@@ -128,7 +128,15 @@ const REFUSALS: &[(&str, &str)] = &[
 
 #[test]
 fn refusals_have_their_lines(rt: HostRuntime) -> Result<(), Fail> {
-    check_answers(&rt, rt.alloc(), &Limits::standard(), "matches", "", REFUSALS, 1)
+    check_answers(
+        &rt,
+        rt.alloc(),
+        &Limits::standard(),
+        "matches",
+        "",
+        REFUSALS,
+        1,
+    )
 }
 
 /// What scripts of terms declare.
@@ -245,7 +253,15 @@ fn the_first_too_many_is_refused(rt: HostRuntime) -> Result<(), Fail> {
             "(error \"line 2 column 44: the pattern is too large\")\n",
         ),
     ];
-    check_answers(&rt, alloc, &Limits::standard(), "matches", TERMS_DECLARED, &answers, 1)
+    check_answers(
+        &rt,
+        alloc,
+        &Limits::standard(),
+        "matches",
+        TERMS_DECLARED,
+        &answers,
+        1,
+    )
 }
 
 /// What scripts of two constants declare.
@@ -265,7 +281,15 @@ fn a_formula_has_room_for_as_many_terms_as_may_stand(rt: HostRuntime) -> Result<
     let full = [(PAIR, "(error \"line 2 column 1: too many terms\")\n")];
     check_answers(&rt, alloc, &few, "matches", PAIR_DECLARED, &full, 1)?;
     let enough = Limits { terms: 5, ..few };
-    check_answers(&rt, alloc, &enough, "matches", PAIR_DECLARED, &[(PAIR, "")], 0)?;
+    check_answers(
+        &rt,
+        alloc,
+        &enough,
+        "matches",
+        PAIR_DECLARED,
+        &[(PAIR, "")],
+        0,
+    )?;
     let no_node = Limits { nodes: 0, ..enough };
     let refused = [(
         "(assert true)",

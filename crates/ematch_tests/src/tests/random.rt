@@ -5,7 +5,9 @@ use std::alloc::{AllocError, Global};
 use std::test::Fail;
 
 /// What the scripts declare, and how their atoms are written.
-const DECLARED: &str = "(declare-sort U 0)(declare-const a U)(declare-const b U)(declare-const c U)(declare-const q Bool)(declare-const r Bool)(declare-const s Bool)\n";
+const DECLARED: &str =
+    "(declare-sort U 0)(declare-const a U)(declare-const b U)(declare-const c U)(declare-const q Bool)(declare-const r Bool)(declare-const s Bool)\n";
+
 const ATOMS: [&str; 6] = ["(= a b)", "(= c b)", "(= a c)", "q", "r", "s"];
 
 /// For each atom the worlds in which it is true. A world is a bit: its number's i-th bit tells whether atom i is true there.
@@ -161,7 +163,15 @@ fn random_ground_scripts_are_sat_where_a_world_makes_them_true(
     for seed in 0..40u64 {
         let script = script_of(alloc, seed)?;
         let answers = [(script.text.as_str(), script.answer.as_str())];
-        check_answers(&rt, alloc, &Limits::standard(), "solve", DECLARED, &answers, 0)?;
+        check_answers(
+            &rt,
+            alloc,
+            &Limits::standard(),
+            "solve",
+            DECLARED,
+            &answers,
+            0,
+        )?;
     }
     Ok(())
 }

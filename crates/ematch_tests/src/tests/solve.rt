@@ -3,7 +3,8 @@ use super::fixture::{Faults, check_answers, run};
 use em_outside::Limits;
 use std::test::Fail;
 
-const DECLARED: &str = "(declare-sort U 0)(declare-fun f (U) U)(declare-fun p (U) Bool)(declare-const a U)(declare-const b U)(declare-const c U)(declare-const q Bool)(declare-const r Bool)\n";
+const DECLARED: &str =
+    "(declare-sort U 0)(declare-fun f (U) U)(declare-fun p (U) Bool)(declare-const a U)(declare-const b U)(declare-const c U)(declare-const q Bool)(declare-const r Bool)\n";
 
 /// Scripts without foralls behind the declarations, and their verdicts.
 const VERDICTS: &[(&str, &str)] = &[
@@ -60,12 +61,23 @@ const VERDICTS: &[(&str, &str)] = &[
         "(assert (or q r))(check-sat)(check-sat)(push 1)(assert (not r))(check-sat)(assert (not q))(check-sat)(pop 1)(check-sat)",
         "sat\nsat\nsat\nunsat\nsat\n",
     ),
-    ("(assert false)(check-sat)(get-info :reason-unknown)", "unsat\nunsupported\n"),
+    (
+        "(assert false)(check-sat)(get-info :reason-unknown)",
+        "unsat\nunsupported\n",
+    ),
 ];
 
 #[test]
 fn ground_scripts_have_their_verdicts(rt: HostRuntime) -> Result<(), Fail> {
-    check_answers(&rt, rt.alloc(), &Limits::standard(), "solve", DECLARED, VERDICTS, 0)
+    check_answers(
+        &rt,
+        rt.alloc(),
+        &Limits::standard(),
+        "solve",
+        DECLARED,
+        VERDICTS,
+        0,
+    )
 }
 
 /// Scripts with an error, and their lines.
@@ -92,7 +104,15 @@ const ERRORS: &[(&str, &str)] = &[
 
 #[test]
 fn errors_of_ground_scripts_have_their_lines(rt: HostRuntime) -> Result<(), Fail> {
-    check_answers(&rt, rt.alloc(), &Limits::standard(), "solve", DECLARED, ERRORS, 1)
+    check_answers(
+        &rt,
+        rt.alloc(),
+        &Limits::standard(),
+        "solve",
+        DECLARED,
+        ERRORS,
+        1,
+    )
 }
 
 #[test]
@@ -102,7 +122,14 @@ fn a_read_that_fails_ends_what_is_solved(rt: HostRuntime) -> Result<(), Fail> {
         writes: &[],
     };
     let script = ["(declare-sort U 0)(check-sat)\n(assert ("];
-    let left = run(rt.alloc(), &Limits::standard(), &["solve"], &script, 100, first)?;
+    let left = run(
+        rt.alloc(),
+        &Limits::standard(),
+        &["solve"],
+        &script,
+        100,
+        first,
+    )?;
     assert_eq!(rt; left.out.as_slice(), b"sat\n".as_slice());
     assert_eq!(rt; left.code, 3);
     assert_eq!(rt; left.err.as_slice(), b"ematch: read failed\n".as_slice());
