@@ -1,22 +1,21 @@
 -- What is found at a disjunction.
-use Rattle.std.proofs.Common.{◌≡◌, ◌≢◌, ℕ, ◌+◌, ◌<◌, List, [], ◌∷◌, length, slice_get, Some, All, Contains, refl, sym, ap, subst, ◌∙◌, arith}
+use Rattle.std.proofs.Common.{◌≡◌, ◌≢◌, ℕ, ◌<◌, List, length, slice_get, Some, All, Contains, sym, ap, subst, ◌∙◌, arith}
 use Rattle.std.proofs.lemmas.Option.{same_Some, slice_get_within, get_or_from_slice_get}
 use Rattle.std.proofs.lemmas.List.Elements.{All-weaker}
 use Rattle.formula_table.specs.declared.node.Node.{Node}
-use Rattle.formula_table.specs.declared.node.Node.TheVariants.{Equal, Atom, And, Or, Forall}
+use Rattle.formula_table.specs.declared.node.Node.TheVariants.{And, Or}
 use Rattle.formula_table.specs.Formulas.{Formulas, IsFormulaTable}
 use Rattle.formula_truth.specs.declared.truth.Truth.{Truth}
-use Rattle.formula_truth.specs.declared.truth.Truth.TheVariants.{Yes, No, Unset}
+use Rattle.formula_truth.specs.declared.truth.Truth.TheVariants.{Yes}
 use Rattle.formula_value.specs.Holds as formulas_hold
 use Rattle.formula_value.specs.Holds.{HasNode, Holds}
 use Rattle.formula_value.specs.Value.{IsYesLeaf}
-use Rattle.search_laws.specs.Branch.{Branch, known_in, live_in, IsYesIn, IsNoIn}
-use Rattle.search_laws.specs.Closing.{IsAssertedOr, IsLeftOver, HasNoYesPart, IsUnit, IsOpen}
-use Rattle.search_check.specs.declared.found.Found.{Found}
+use Rattle.search_laws.specs.Branch.{Branch, known_in, live_in, IsYesIn}
+use Rattle.search_laws.specs.Closing.{IsAssertedOr, IsLeftOver, HasNoYesPart}
 use Rattle.search_check.specs.declared.found.Found.TheVariants.{Settled, Empty, Single, Open}
 use Rattle.search_check.specs.Truths.{AreTruths, value_at}
-use Rattle.search_check.specs.Left.{IsLeftAt, IsLeft, IsOnly, IsFirstOfMore}
-use Rattle.search_check.specs.Found.{IsEmpty, IsNoUnit, IsNotOpen, IsOpenAt, IsFound}
+use Rattle.search_check.specs.Left.{IsLeft, IsOnly, IsFirstOfMore}
+use Rattle.search_check.specs.Found.{IsEmpty, IsNoUnit, IsFound}
 
 same_ors : (ps qs : List ℕ) → Or ps ≡ Or qs → ps ≡ qs
 same_ors ps qs e = cc

@@ -1,10 +1,10 @@
 -- Places left over, one after another.
-use Rattle.std.proofs.Common.{◌≡◌, ℕ, ◌+◌, ◌<◌, Bool, true, false, List, length, slice_get, Some, Contains, refl, sym, ap, subst, ◌∙◌, arith, below_more}
+use Rattle.std.proofs.Common.{◌≡◌, ℕ, ◌+◌, ◌<◌, Bool, true, false, List, slice_get, Some, refl, sym, subst, ◌∙◌, arith, below_more}
 use Rattle.std.proofs.lemmas.Option.{same_Some}
 use Rattle.formula_truth.specs.declared.truth.Truth.{Truth}
 use Rattle.search_check.specs.declared.left.Left.{Left}
 use Rattle.search_check.specs.declared.left.Left.TheVariants.{Nothing, One, More}
-use Rattle.search_check.specs.Left.{IsLeftAt, IsLeft, IsOnly, IsFirstOfMore, AreLeft, with_place}
+use Rattle.search_check.specs.Left.{IsLeftAt, IsLeft, AreLeft, with_place}
 
 module _ (has : ℕ → ℕ → Type 0) where
   -- none has the property before a number, and none at it

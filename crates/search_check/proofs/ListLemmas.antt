@@ -1,7 +1,7 @@
 -- Lists, and what they contain.
-use Rattle.std.proofs.Common.{◌≡◌, ℕ, ◌+◌, ◌<◌, List, [], ◌∷◌, map, All, Contains, Result, Ok, Err, IfOk, refl, sym, ap, ◌∙◌, arith}
+use Rattle.std.proofs.Common.{◌≡◌, ℕ, List, [], ◌∷◌, map, Contains, Result, Ok, Err, IfOk, refl, ap, arith}
 use Rattle.std.specs.List.{zip}
-use Rattle.std.proofs.lemmas.List.Elements.{All-nil, All-cons, Contains-append_right}
+use Rattle.std.proofs.lemmas.List.Elements.{Contains-append_right}
 
 module _ {X : Type 0} where
   -- the first element

@@ -1,7 +1,6 @@
 -- The next step, formula by formula.
-use Rattle.std.proofs.Common.{◌≡◌, ℕ, zero, suc, ◌+◌, ◌<◌, List, [], ◌∷◌, length, slice_get, Option, Some, None, All, Contains, refl, sym, ap, subst, ◌∙◌, arith, below_more}
+use Rattle.std.proofs.Common.{◌≡◌, ℕ, zero, suc, ◌+◌, ◌<◌, List, length, slice_get, Some, None, sym, ap, subst, arith, below_more}
 use Rattle.std.proofs.lemmas.Option.{same_Some, slice_get_within, get_or_from_slice_get}
-use Rattle.graph_meaning.specs.declared.done.Done.{Done}
 use Rattle.graph_meaning.specs.Same.{Same}
 use Rattle.graph_meaning.specs.Standing.{differs_of}
 use Rattle.graph_congruence.specs.declared.clash.Clash.{Clash}
@@ -9,14 +8,14 @@ use Rattle.graph_congruence.specs.Clash.{IsClash, apart_of}
 use Rattle.formula_table.specs.declared.node.Node.TheVariants.{Or}
 use Rattle.formula_table.specs.Formulas.{Formulas, IsFormulaTable}
 use Rattle.formula_value.specs.Holds.{HasNode}
-use Rattle.search_laws.specs.Branch.{Branch, IsYesIn}
+use Rattle.search_laws.specs.Branch.{Branch}
 use Rattle.search_laws.specs.Closing.{Conflict, IsAssertedOr, IsUnit, IsFirstUnit, IsSplit, HasNoOpen}
 use Rattle.search_laws.specs.Closing as closing
 use Rattle.search_check.specs.declared.found.Found.{Found}
 use Rattle.search_check.specs.declared.found.Found.TheVariants.{Settled, Empty, Single, Open}
 use Rattle.search_check.specs.declared.step.Step.{Step}
 use Rattle.search_check.specs.declared.step.Step.TheVariants.{Lost, Assert, Split, WayOut}
-use Rattle.search_check.specs.Found.{IsEmpty, IsNoUnit, IsNotOpen, IsOpenAt, IsFound}
+use Rattle.search_check.specs.Found.{IsEmpty, IsNoUnit, IsNotOpen, IsFound}
 use Rattle.search_check.specs.Steps.{HasNoConflict, HasNoUnit, IsStep, EachBelow, IsNotEmpty, IsStepBelow, then_found, IsWithin}
 use Rattle.search_check.proofs.ListLemmas.{contains_head, contains_later}
 

@@ -1,8 +1,8 @@
 -- The values of all formulas, where no forall stands.
-use Rattle.std.proofs.Common.{◌≡◌, ℕ, ◌<◌, ◌↔◌, List, [], ◌∷◌, length, map, slice_get, Option, Some, None, All, Contains, refl, sym, ap, subst, ◌∙◌, arith}
-use Rattle.std.specs.List.{zip, filter_map}
+use Rattle.std.proofs.Common.{◌≡◌, ℕ, ◌<◌, ◌↔◌, List, [], ◌∷◌, length, map, slice_get, Option, Some, None, All, refl, sym, ap, subst, ◌∙◌, arith}
+use Rattle.std.specs.List.{zip}
 use Rattle.std.specs.Option.{option_map_or}
-use Rattle.std.proofs.lemmas.Option.{slice_get-get_or, none-some}
+use Rattle.std.proofs.lemmas.Option.{slice_get-get_or}
 use Rattle.std.proofs.lemmas.List.Elements.{All-nil, All-cons}
 use Rattle.graph_meaning.specs.declared.done.Done.{Done}
 use Rattle.graph_meaning.specs.Known.{Known, known_of}
@@ -15,7 +15,7 @@ use Rattle.formula_truth.specs.declared.truth.Truth.{Truth}
 use Rattle.formula_truth.specs.declared.truth.Truth.TheVariants.{Yes, No, Unset}
 use Rattle.formula_value.specs.declared.facts.Facts.{Facts}
 use Rattle.formula_value.specs.Laws.{HasOneValue}
-use Rattle.formula_value.specs.Value.{IsYes, IsNo, HasValue, AreFacts, AreFirstValues, known_with}
+use Rattle.formula_value.specs.Value.{IsYes, IsNo, HasValue, AreFirstValues, known_with}
 use Rattle.formula_assert.specs.Held.{Held}
 use Rattle.search_laws.specs.Branch.{Branch, first_branch, forall_in, foralls_among, live_in}
 use Rattle.search_check.specs.Truths.{AreFactsOf, AreTruths, value_at}

@@ -1,5 +1,5 @@
 -- A search goes on.
-use Rattle.std.proofs.Common.{◌≡◌, ℕ, ◌+◌, ◌<◌, true, List, [], ◌∷◌, ◌++◌, length, take, reverse, get_or, slice_get, Some, Contains, refl, sym, ap, ap₂, subst, ◌∙◌, append_assoc, append-nil, arith}
+use Rattle.std.proofs.Common.{◌≡◌, ℕ, ◌<◌, true, List, [], ◌∷◌, ◌++◌, length, take, reverse, get_or, slice_get, Some, refl, sym, ap, ap₂, subst, ◌∙◌, append_assoc, append-nil, arith}
 use Rattle.std.proofs.lemmas.List.{length-append, reverse-append, reverse-reverse, take-append-le, take_all}
 use Rattle.std.proofs.lemmas.Option.{slice_get-get_or, slice_get_within}
 use Rattle.graph_meaning.specs.State.{replay}
@@ -7,7 +7,6 @@ use Rattle.formula_table.specs.declared.node.Node.{Node}
 use Rattle.formula_table.specs.declared.node.Node.TheVariants.{Atom}
 use Rattle.formula_table.specs.Formulas.{Formulas}
 use Rattle.formula_value.specs.Holds.{HasNode}
-use Rattle.formula_assert.specs.declared.mark.Mark.{Mark}
 use Rattle.formula_assert.specs.Held.{Held, held, refuting_of}
 use Rattle.formula_assert.specs.Assertions.{Assertions, held_of}
 use Rattle.formula_assert.specs.Asserts.{Asserts}

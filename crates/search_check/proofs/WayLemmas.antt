@@ -3,7 +3,6 @@ use Rattle.std.proofs.Common.{◌≡◌, ◌≢◌, ℕ, List, [], ◌∷◌}
 use Rattle.formula_table.specs.Formulas.{Formulas}
 use Rattle.formula_value.specs.Holds.{HasNode}
 use Rattle.formula_assert.specs.Held.{Held}
-use Rattle.formula_assert.specs.Assertions.{held_of}
 use Rattle.formula_assert.specs.Asserts.{Asserts}
 use Rattle.search_laws.specs.Branch.{Branch, with_held, live_in}
 use Rattle.search_laws.specs.Closing.{Conflict, Closes, IsFirstUnit, IsSplit, HasNoOpen}

@@ -1,5 +1,5 @@
 -- What a search finds at one formula.
-use Rattle.std.specs.Prelude.{◌≡◌, ℕ, ◌<◌, List, Contains}
+use Rattle.std.specs.Prelude.{ℕ, ◌<◌, List, Contains}
 use Rattle.formula_table.specs.Formulas.{Formulas}
 use Rattle.search_laws.specs.Branch.{Branch, IsYesIn}
 use Rattle.search_laws.specs.Closing.{IsAssertedOr, IsLeftOver, IsUnit, IsOpen}

@@ -1,5 +1,5 @@
 -- The next step of a search.
-use Rattle.std.specs.Prelude.{◌≡◌, ℕ, ◌<◌, ◌+◌, List}
+use Rattle.std.specs.Prelude.{ℕ, ◌<◌}
 use Rattle.formula_table.specs.Formulas.{Formulas}
 use Rattle.search_laws.specs.Branch.{Branch}
 use Rattle.search_laws.specs.Closing.{Conflict, IsUnit, IsFirstUnit, IsSplit, HasNoOpen}

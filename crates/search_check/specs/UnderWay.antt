@@ -1,5 +1,5 @@
 -- A search with the splits whose first halves are under way.
-use Rattle.std.specs.Prelude.{◌≡◌, ◌≢◌, ℕ, List, [], ◌∷◌, ◌++◌, length, Bool, true, false, Option, Some, None}
+use Rattle.std.specs.Prelude.{◌≡◌, ◌≢◌, ℕ, List, [], ◌∷◌, ◌++◌, length, Option, Some, None}
 use Rattle.formula_table.specs.declared.node.Node.{Node}
 use Rattle.formula_table.specs.Formulas.{Formulas}
 use Rattle.formula_value.specs.Holds.{HasNode}
@@ -14,7 +14,8 @@ use Rattle.search_check.specs.declared.search.Search.{Search}
 use Rattle.search_check.specs.Truths.{branch_of}
 use Rattle.search_check.specs.Verdicts.{IsVerdictOf}
 
--- a split whose first half is under way: what stood and was struck at it, what the search keeps of it, and the part's node
+-- a split whose first half is under way: what stood and was struck at it, what the search keeps of it, and the node of
+-- its part
 pub record Half : Type 0 where
   pub before : Assertions
   pub struck : List (ℕ × ℕ)
