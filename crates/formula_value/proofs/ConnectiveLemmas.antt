@@ -1,6 +1,6 @@
 -- Conjunctions and disjunctions of values.
 use Rattle.std.proofs.Common.{◌≡◌, ◌≢◌, ℕ, ◌+◌, ◌<◌, List, [], ◌∷◌, ◌++◌, length, take, get_or, All, Contains}
-use Rattle.std.proofs.Common.{refl, sym, ap, ◌∙◌, ⊎_elim, arith}
+use Rattle.std.proofs.Common.{refl, sym, ap, subst, ◌∙◌, ◌⊎◌, inl, inr, ⊎_elim, arith}
 use Rattle.std.proofs.lemmas.List.{take_more, map-append}
 use Rattle.std.proofs.lemmas.List.Elements.{All-get_or}
 use Rattle.graph_terms.proofs.ListLaws.{get_or-any}
@@ -48,113 +48,151 @@ pub some_of-push : (xs : List Truth) (x : Truth) → some_of (xs ++ x ∷ []) �
 some_of-push [] x = or_no x
 some_of-push (y ∷ xs) x = ap (or_of y) (some_of-push xs x) ∙ or_assoc y (some_of xs) x
 
+-- a value of many values: the one value where all have it, the other where some has that
+record Joins (of : List Truth → Truth) (op : Truth → Truth → Truth) (each any : Truth) : Type 0 where
+  none : of [] ≡ each
+  more : (x : Truth) (xs : List Truth) → of (x ∷ xs) ≡ op x (of xs)
+  apart : each ≡ any → ⊥
+  known : each ≡ Unset → ⊥
+  both : (a b : Truth) → op a b ≡ each → (a ≡ each) × (b ≡ each)
+  one : (a b : Truth) → op a b ≡ any → (a ≡ any) ⊎ (b ≡ any)
+  left : (a b : Truth) → op a b ≡ Unset → (a ≡ Unset) ⊎ (b ≡ Unset)
+  first : (b : Truth) → op any b ≡ any
+  last : (a : Truth) → op a any ≡ any
+  decided : any ≡ Unset → ⊥
+
+conjunction : Joins all_of and_of Yes No
+conjunction = record {
+  none = refl;
+  more = λ x xs. refl;
+  apart = λ e. cc;
+  known = λ e. cc;
+  both = both;
+  one = one;
+  left = left;
+  first = λ b. refl;
+  last = last;
+  decided = λ e. cc;
+}
+  where
+    both : (a b : Truth) → and_of a b ≡ Yes → (a ≡ Yes) × (b ≡ Yes)
+    both Yes b e = (refl, e)
+    both No b e = cc
+    both Unset Yes e = cc
+    both Unset No e = cc
+    both Unset Unset e = cc
+
+    one : (a b : Truth) → and_of a b ≡ No → (a ≡ No) ⊎ (b ≡ No)
+    one Yes b e = inr e
+    one No b e = inl refl
+    one Unset Yes e = cc
+    one Unset No e = inr refl
+    one Unset Unset e = cc
+
+    left : (a b : Truth) → and_of a b ≡ Unset → (a ≡ Unset) ⊎ (b ≡ Unset)
+    left Yes b e = inr e
+    left No b e = cc
+    left Unset b e = inl refl
+
+    last : (a : Truth) → and_of a No ≡ No
+    last Yes = refl
+    last No = refl
+    last Unset = refl
+
+disjunction : Joins some_of or_of No Yes
+disjunction = record {
+  none = refl;
+  more = λ x xs. refl;
+  apart = λ e. cc;
+  known = λ e. cc;
+  both = both;
+  one = one;
+  left = left;
+  first = λ b. refl;
+  last = last;
+  decided = λ e. cc;
+}
+  where
+    both : (a b : Truth) → or_of a b ≡ No → (a ≡ No) × (b ≡ No)
+    both No b e = (refl, e)
+    both Yes b e = cc
+    both Unset Yes e = cc
+    both Unset No e = cc
+    both Unset Unset e = cc
+
+    one : (a b : Truth) → or_of a b ≡ Yes → (a ≡ Yes) ⊎ (b ≡ Yes)
+    one No b e = inr e
+    one Yes b e = inl refl
+    one Unset Yes e = inr refl
+    one Unset No e = cc
+    one Unset Unset e = cc
+
+    left : (a b : Truth) → or_of a b ≡ Unset → (a ≡ Unset) ⊎ (b ≡ Unset)
+    left Yes b e = cc
+    left No b e = inr e
+    left Unset b e = inl refl
+
+    last : (a : Truth) → or_of a Yes ≡ Yes
+    last Yes = refl
+    last No = refl
+    last Unset = refl
+
+module _ {of : List Truth → Truth} {op : Truth → Truth → Truth} {each any : Truth} (joins : Joins of op each any) where
+  split : (y : Truth) (xs : List Truth) {t : Truth} → of (y ∷ xs) ≡ t → op y (of xs) ≡ t
+  split y xs e = sym (joins.more y xs) ∙ e
+
+  all_each : (xs : List Truth) → of xs ≡ each → (x : Truth) → Contains xs x → x ≡ each
+  all_each [] e x c = absurd (omega (arith, c.1))
+  all_each (y ∷ xs) e x c = let parts = joins.both y (of xs) (split y xs e) in
+      ⊎_elim (λ same. sym same ∙ parts.0) (all_each xs parts.1 x) (contains_cases y x xs c)
+
+  some_any : (xs : List Truth) → of xs ≡ any → Contains xs any
+  some_any [] e = absurd (joins.apart (sym joins.none ∙ e))
+  some_any (y ∷ xs) e = ⊎_elim
+      (λ here. subst (λ x. Contains (x ∷ xs) any) (sym here) (contains_head any xs))
+      (λ later. contains_later y any xs (some_any xs later))
+      (joins.one y (of xs) (split y xs e))
+
+  any_some : (xs : List Truth) → Contains xs any → of xs ≡ any
+  any_some [] c = absurd (omega (arith, c.1))
+  any_some (y ∷ xs) c = joins.more y xs ∙ ⊎_elim
+      (λ same. ap (λ x. op x (of xs)) same ∙ joins.first (of xs))
+      (λ later. ap (op y) (any_some xs later) ∙ joins.last y)
+      (contains_cases y any xs c)
+
+  some_unset_part : (xs : List Truth) → of xs ≡ Unset → Contains xs Unset
+  some_unset_part [] e = absurd (joins.known (sym joins.none ∙ e))
+  some_unset_part (y ∷ xs) e = ⊎_elim
+      (λ here. subst (λ x. Contains (x ∷ xs) Unset) (sym here) (contains_head Unset xs))
+      (λ later. contains_later y Unset xs (some_unset_part xs later))
+      (joins.left y (of xs) (split y xs e))
+
+  unset_parts : (xs : List Truth) → of xs ≡ Unset → Contains xs Unset × ((x : Truth) → Contains xs x → x ≢ any)
+  unset_parts xs e = (some_unset_part xs e, λ x c is. joins.decided (sym (any_some xs (subst (Contains xs) is c)) ∙ e))
+
 -- each part of a Yes conjunction is Yes
 pub all_yes : (xs : List Truth) → all_of xs ≡ Yes → (x : Truth) → Contains xs x → x ≡ Yes
-all_yes [] e x c = absurd (omega (arith, c.1))
-all_yes (y ∷ xs) e x c = ⊎_elim (λ same. sym same ∙ (parts y (all_of xs) e).0)
-    (all_yes xs ((parts y (all_of xs) e).1) x) (contains_cases y x xs c)
-  where
-    parts : (a b : Truth) → and_of a b ≡ Yes → (a ≡ Yes) × (b ≡ Yes)
-    parts Yes b e = (refl, e)
-    parts No b e = cc
-    parts Unset Yes e = cc
-    parts Unset No e = cc
-    parts Unset Unset e = cc
+all_yes = all_each conjunction
 
 -- a No conjunction has a No part
 pub all_no : (xs : List Truth) → all_of xs ≡ No → Contains xs No
-all_no [] e = cc
-all_no (No ∷ xs) e = contains_head No xs
-all_no (Yes ∷ xs) e = contains_later Yes No xs (all_no xs e)
-all_no (Unset ∷ xs) e = contains_later Unset No xs (all_no xs (rest (all_of xs) e))
-  where
-    rest : (b : Truth) → and_of Unset b ≡ No → b ≡ No
-    rest No e = refl
-    rest Yes e = cc
-    rest Unset e = cc
+all_no = some_any conjunction
 
 -- an Unset conjunction has an Unset part, and no No part
 pub all_unset : (xs : List Truth) → all_of xs ≡ Unset → Contains xs Unset × ((x : Truth) → Contains xs x → x ≢ No)
-all_unset [] e = cc
-all_unset (No ∷ xs) e = cc
-all_unset (Yes ∷ xs) e = let rest = all_unset xs e in (
-  contains_later Yes Unset xs rest.0,
-  λ x c. ⊎_elim (λ same no. cc) (rest.1 x) (contains_cases Yes x xs c),
-)
-all_unset (Unset ∷ xs) e =
-    (contains_head Unset xs, λ x c. ⊎_elim (λ same no. cc) (not_no xs (rest (all_of xs) e) x) (contains_cases Unset x xs c))
-  where
-    rest : (b : Truth) → and_of Unset b ≡ Unset → b ≢ No
-    rest No e f = cc
-    rest Yes e f = cc
-    rest Unset e f = cc
-
-    no_rest : (y : Truth) (b : Truth) → and_of y b ≢ No → (y ≢ No) × (b ≢ No)
-    no_rest No b h = absurd (h refl)
-    no_rest Yes b h = (λ f. cc, h)
-    no_rest Unset No h = absurd (h refl)
-    no_rest Unset Yes h = (λ f. cc, λ f. cc)
-    no_rest Unset Unset h = (λ f. cc, λ f. cc)
-
-    not_no : (ys : List Truth) → all_of ys ≢ No → (x : Truth) → Contains ys x → x ≢ No
-    not_no [] h x c = absurd (omega (arith, c.1))
-    not_no (y ∷ ys) h x c = let both = no_rest y (all_of ys) h in
-        ⊎_elim (λ same no. both.0 (same ∙ no)) (not_no ys both.1 x) (contains_cases y x ys c)
+all_unset = unset_parts conjunction
 
 -- each part of a No disjunction is No
 pub some_no : (xs : List Truth) → some_of xs ≡ No → (x : Truth) → Contains xs x → x ≡ No
-some_no [] e x c = absurd (omega (arith, c.1))
-some_no (y ∷ xs) e x c = ⊎_elim (λ same. sym same ∙ (parts y (some_of xs) e).0)
-    (some_no xs ((parts y (some_of xs) e).1) x) (contains_cases y x xs c)
-  where
-    parts : (a b : Truth) → or_of a b ≡ No → (a ≡ No) × (b ≡ No)
-    parts No b e = (refl, e)
-    parts Yes b e = cc
-    parts Unset Yes e = cc
-    parts Unset No e = cc
-    parts Unset Unset e = cc
+some_no = all_each disjunction
 
 -- a Yes disjunction has a Yes part
 pub some_yes : (xs : List Truth) → some_of xs ≡ Yes → Contains xs Yes
-some_yes [] e = cc
-some_yes (Yes ∷ xs) e = contains_head Yes xs
-some_yes (No ∷ xs) e = contains_later No Yes xs (some_yes xs e)
-some_yes (Unset ∷ xs) e = contains_later Unset Yes xs (some_yes xs (rest (some_of xs) e))
-  where
-    rest : (b : Truth) → or_of Unset b ≡ Yes → b ≡ Yes
-    rest Yes e = refl
-    rest No e = cc
-    rest Unset e = cc
+some_yes = some_any disjunction
 
 -- an Unset disjunction has an Unset part, and no Yes part
 pub some_unset : (xs : List Truth) → some_of xs ≡ Unset → Contains xs Unset × ((x : Truth) → Contains xs x → x ≢ Yes)
-some_unset [] e = cc
-some_unset (Yes ∷ xs) e = cc
-some_unset (No ∷ xs) e = let rest = some_unset xs e in (
-  contains_later No Unset xs rest.0,
-  λ x c. ⊎_elim (λ same yes. cc) (rest.1 x) (contains_cases No x xs c),
-)
-some_unset (Unset ∷ xs) e = (
-  contains_head Unset xs,
-  λ x c. ⊎_elim (λ same yes. cc) (not_yes xs (rest (some_of xs) e) x) (contains_cases Unset x xs c),
-)
-  where
-    rest : (b : Truth) → or_of Unset b ≡ Unset → b ≢ Yes
-    rest No e f = cc
-    rest Yes e f = cc
-    rest Unset e f = cc
-
-    no_rest : (y : Truth) (b : Truth) → or_of y b ≢ Yes → (y ≢ Yes) × (b ≢ Yes)
-    no_rest Yes b h = absurd (h refl)
-    no_rest No b h = (λ f. cc, h)
-    no_rest Unset Yes h = absurd (h refl)
-    no_rest Unset No h = (λ f. cc, λ f. cc)
-    no_rest Unset Unset h = (λ f. cc, λ f. cc)
-
-    not_yes : (ys : List Truth) → some_of ys ≢ Yes → (x : Truth) → Contains ys x → x ≢ Yes
-    not_yes [] h x c = absurd (omega (arith, c.1))
-    not_yes (y ∷ ys) h x c = let both = no_rest y (some_of ys) h in
-        ⊎_elim (λ same yes. both.0 (same ∙ yes)) (not_yes ys both.1 x) (contains_cases y x ys c)
+some_unset = unset_parts disjunction
 
 -- the values of a front of the parts with one part more
 values_of-more : (values : List Truth) (parts : List ℕ) → All (λ part. part < length values) parts → (i : ℕ) →

@@ -1,5 +1,5 @@
 -- A settled board has the values that are defined.
-use Rattle.std.proofs.Common.{zero, suc, ◌≡◌, ◌<◌, ◌⊎◌, inl, inr, ℕ, List, [], ◌∷◌, length, slice_index_or, refl, sym, ◌∙◌, ap, arith}
+use Rattle.std.proofs.Common.{zero, suc, ◌≡◌, ◌<◌, ◌⊎◌, inl, inr, ℕ, List, [], ◌∷◌, length, slice_index_or, refl, sym, ◌∙◌, ap, ap₂, arith}
 use Rattle.formula_truth.specs.declared.truth.Truth.{Truth}
 use Rattle.formula_truth.specs.declared.truth.Truth.TheVariants.{Yes, No, Unset}
 use Rattle.search_board.specs.declared.kind.Kind.{Kind}
@@ -16,17 +16,28 @@ use Rattle.search_values.specs.GivenBy.{given_by, leaf_only}
 
 -- ---- what a conjunction and a disjunction of places tell
 
-all_yes_each : (places : List Place) → all_of (told_by places) ≡ Yes → (i : ℕ) → i < length places → (slice_index_or places i blank).told ≡ Yes
-all_yes_each [] e i h = absurd (omega arith)
-all_yes_each (p ∷ ps) e zero h = (both p.told (all_of (told_by ps)) e).0
-  where
-    both : (a b : Truth) → and_of a b ≡ Yes → (a ≡ Yes) × (b ≡ Yes)
-    both Yes b e = (refl, e)
-    both No b e = cc
-    both Unset Yes e = cc
-    both Unset No e = cc
-    both Unset Unset e = cc
-all_yes_each (p ∷ ps) e (suc i) h = all_yes_each ps ((both p.told (all_of (told_by ps)) e).1) i (omega arith)
+-- a value of many values: the one value where all have it, the other where some has that
+record Joins (of : List Truth → Truth) (op : Truth → Truth → Truth) (each any : Truth) : Type 0 where
+  none : of [] ≡ each
+  more : (x : Truth) (xs : List Truth) → of (x ∷ xs) ≡ op x (of xs)
+  apart : each ≡ any → ⊥
+  both : (a b : Truth) → op a b ≡ each → (a ≡ each) × (b ≡ each)
+  one : (a b : Truth) → op a b ≡ any → (a ≡ any) ⊎ (b ≡ any)
+  whole : op each each ≡ each
+  first : (b : Truth) → op any b ≡ any
+  last : (a : Truth) → op a any ≡ any
+
+conjunction : Joins all_of and_of Yes No
+conjunction = record {
+  none = refl;
+  more = λ x xs. refl;
+  apart = λ e. cc;
+  both = both;
+  one = one;
+  whole = refl;
+  first = λ b. refl;
+  last = last;
+}
   where
     both : (a b : Truth) → and_of a b ≡ Yes → (a ≡ Yes) × (b ≡ Yes)
     both Yes b e = (refl, e)
@@ -35,13 +46,6 @@ all_yes_each (p ∷ ps) e (suc i) h = all_yes_each ps ((both p.told (all_of (tol
     both Unset No e = cc
     both Unset Unset e = cc
 
-all_no_some : (places : List Place) → all_of (told_by places) ≡ No → (i : ℕ) × (i < length places) × ((slice_index_or places i blank).told ≡ No)
-all_no_some [] e = cc
-all_no_some (p ∷ ps) e = elim (one p.told (all_of (told_by ps)) e) [
-  | inl here ↦ (0, omega arith, here)
-  | inr later ↦ let found = all_no_some ps later in (suc found.0, omega (arith, found.1), found.2)
-]
-  where
     one : (a b : Truth) → and_of a b ≡ No → (a ≡ No) ⊎ (b ≡ No)
     one Yes b e = inr e
     one No b e = inl refl
@@ -49,31 +53,22 @@ all_no_some (p ∷ ps) e = elim (one p.told (all_of (told_by ps)) e) [
     one Unset No e = inr refl
     one Unset Unset e = cc
 
-each_yes_all : (places : List Place) → ((i : ℕ) → i < length places → (slice_index_or places i blank).told ≡ Yes) → all_of (told_by places) ≡ Yes
-each_yes_all [] each = refl
-each_yes_all (p ∷ ps) each = rw (each 0 (omega arith)) (each_yes_all ps (λ i h. each (suc i) (omega arith)))
-
-some_no_all : (places : List Place) (i : ℕ) → i < length places → (slice_index_or places i blank).told ≡ No → all_of (told_by places) ≡ No
-some_no_all [] i h e = absurd (omega arith)
-some_no_all (p ∷ ps) zero h e = ap (λ t. and_of t (all_of (told_by ps))) e
-some_no_all (p ∷ ps) (suc i) h e = ap (and_of p.told) (some_no_all ps i (omega arith) e) ∙ last p.told
-  where
     last : (a : Truth) → and_of a No ≡ No
     last Yes = refl
     last No = refl
     last Unset = refl
 
-some_no_each : (places : List Place) → some_of (told_by places) ≡ No → (i : ℕ) → i < length places → (slice_index_or places i blank).told ≡ No
-some_no_each [] e i h = absurd (omega arith)
-some_no_each (p ∷ ps) e zero h = (both p.told (some_of (told_by ps)) e).0
-  where
-    both : (a b : Truth) → or_of a b ≡ No → (a ≡ No) × (b ≡ No)
-    both No b e = (refl, e)
-    both Yes b e = cc
-    both Unset Yes e = cc
-    both Unset No e = cc
-    both Unset Unset e = cc
-some_no_each (p ∷ ps) e (suc i) h = some_no_each ps ((both p.told (some_of (told_by ps)) e).1) i (omega arith)
+disjunction : Joins some_of or_of No Yes
+disjunction = record {
+  none = refl;
+  more = λ x xs. refl;
+  apart = λ e. cc;
+  both = both;
+  one = one;
+  whole = refl;
+  first = λ b. refl;
+  last = last;
+}
   where
     both : (a b : Truth) → or_of a b ≡ No → (a ≡ No) × (b ≡ No)
     both No b e = (refl, e)
@@ -82,13 +77,6 @@ some_no_each (p ∷ ps) e (suc i) h = some_no_each ps ((both p.told (some_of (to
     both Unset No e = cc
     both Unset Unset e = cc
 
-pub some_yes_some : (places : List Place) → some_of (told_by places) ≡ Yes → (i : ℕ) × (i < length places) × ((slice_index_or places i blank).told ≡ Yes)
-some_yes_some [] e = cc
-some_yes_some (p ∷ ps) e = elim (one p.told (some_of (told_by ps)) e) [
-  | inl here ↦ (0, omega arith, here)
-  | inr later ↦ let found = some_yes_some ps later in (suc found.0, omega (arith, found.1), found.2)
-]
-  where
     one : (a b : Truth) → or_of a b ≡ Yes → (a ≡ Yes) ⊎ (b ≡ Yes)
     one No b e = inr e
     one Yes b e = inl refl
@@ -96,19 +84,35 @@ some_yes_some (p ∷ ps) e = elim (one p.told (some_of (told_by ps)) e) [
     one Unset No e = cc
     one Unset Unset e = cc
 
-each_no_some : (places : List Place) → ((i : ℕ) → i < length places → (slice_index_or places i blank).told ≡ No) → some_of (told_by places) ≡ No
-each_no_some [] each = refl
-each_no_some (p ∷ ps) each = rw (each 0 (omega arith)) (each_no_some ps (λ i h. each (suc i) (omega arith)))
-
-some_yes_all : (places : List Place) (i : ℕ) → i < length places → (slice_index_or places i blank).told ≡ Yes → some_of (told_by places) ≡ Yes
-some_yes_all [] i h e = absurd (omega arith)
-some_yes_all (p ∷ ps) zero h e = ap (λ t. or_of t (some_of (told_by ps))) e
-some_yes_all (p ∷ ps) (suc i) h e = ap (or_of p.told) (some_yes_all ps i (omega arith) e) ∙ last p.told
-  where
     last : (a : Truth) → or_of a Yes ≡ Yes
     last Yes = refl
     last No = refl
     last Unset = refl
+
+module _ {of : List Truth → Truth} {op : Truth → Truth → Truth} {each any : Truth} (joins : Joins of op each any) where
+  all_each : (places : List Place) → of (told_by places) ≡ each → (i : ℕ) → i < length places → (slice_index_or places i blank).told ≡ each
+  all_each [] e i h = absurd (omega arith)
+  all_each (p ∷ ps) e zero h = (joins.both p.told (of (told_by ps)) (sym (joins.more p.told (told_by ps)) ∙ e)).0
+  all_each (p ∷ ps) e (suc i) h = all_each ps ((joins.both p.told (of (told_by ps)) (sym (joins.more p.told (told_by ps)) ∙ e)).1) i (omega arith)
+
+  some_any : (places : List Place) → of (told_by places) ≡ any → (i : ℕ) × (i < length places) × ((slice_index_or places i blank).told ≡ any)
+  some_any [] e = absurd (joins.apart (sym joins.none ∙ e))
+  some_any (p ∷ ps) e = elim (joins.one p.told (of (told_by ps)) (sym (joins.more p.told (told_by ps)) ∙ e)) [
+    | inl here ↦ (0, omega arith, here)
+    | inr later ↦ let found = some_any ps later in (suc found.0, omega (arith, found.1), found.2)
+  ]
+
+  each_all : (places : List Place) → ((i : ℕ) → i < length places → (slice_index_or places i blank).told ≡ each) → of (told_by places) ≡ each
+  each_all [] told = joins.none
+  each_all (p ∷ ps) told = joins.more p.told (told_by ps) ∙ ap₂ op (told 0 (omega arith)) (each_all ps (λ i h. told (suc i) (omega arith))) ∙ joins.whole
+
+  any_some : (places : List Place) (i : ℕ) → i < length places → (slice_index_or places i blank).told ≡ any → of (told_by places) ≡ any
+  any_some [] i h e = absurd (omega arith)
+  any_some (p ∷ ps) zero h e = joins.more p.told (told_by ps) ∙ ap (λ t. op t (of (told_by ps))) e ∙ joins.first (of (told_by ps))
+  any_some (p ∷ ps) (suc i) h e = joins.more p.told (told_by ps) ∙ ap (op p.told) (any_some ps i (omega arith) e) ∙ joins.last p.told
+
+pub some_yes_some : (places : List Place) → some_of (told_by places) ≡ Yes → (i : ℕ) × (i < length places) × ((slice_index_or places i blank).told ≡ Yes)
+some_yes_some = some_any disjunction
 
 -- ---- the values
 
@@ -136,18 +140,18 @@ module _ (wires : Wires) (s : Shown) (wired : IsWired wires) (are : AreWires wir
   pub yes_on : {n : ℕ} → n < length wires.parts → HasYes (given_by wires s) n → truth_at s n ≡ Yes
   yes_on {n = n} h (HasYes.leaf is_leaf e) = sym (ap (λ (k : Kind). leaf_only k (truth_at s n)) is_leaf) ∙ e
   yes_on {n = n} h (HasYes.every is_and each) =
-      all_is n h is_and ∙ each_yes_all (places_at s n) (λ i at. let place : i < length (parts_at wires n) = omega (arith, are.places n) in
+      all_is n h is_and ∙ each_all conjunction (places_at s n) (λ i at. let place : i < length (parts_at wires n) = omega (arith, are.places n) in
       told_is n i place ∙ yes_on (omega (arith, wired.earlier n i (place_of n i place))) (each i place))
   yes_on {n = n} h (HasYes.some {i = i} is_or place has) =
-      some_is n h is_or ∙ some_yes_all (places_at s n) i (omega (arith, are.places n)) (told_is n i place ∙ yes_on (omega (arith, wired.earlier n i (place_of n i place))) has)
+      some_is n h is_or ∙ any_some disjunction (places_at s n) i (omega (arith, are.places n)) (told_is n i place ∙ yes_on (omega (arith, wired.earlier n i (place_of n i place))) has)
 
   pub no_on : {n : ℕ} → n < length wires.parts → HasNo (given_by wires s) n → truth_at s n ≡ No
   no_on {n = n} h (HasNo.leaf is_leaf e) = sym (ap (λ (k : Kind). leaf_only k (truth_at s n)) is_leaf) ∙ e
   no_on {n = n} h (HasNo.every is_or each) =
-      some_is n h is_or ∙ each_no_some (places_at s n) (λ i at. let place : i < length (parts_at wires n) = omega (arith, are.places n) in
+      some_is n h is_or ∙ each_all disjunction (places_at s n) (λ i at. let place : i < length (parts_at wires n) = omega (arith, are.places n) in
       told_is n i place ∙ no_on (omega (arith, wired.earlier n i (place_of n i place))) (each i place))
   no_on {n = n} h (HasNo.some {i = i} is_and place has) =
-      all_is n h is_and ∙ some_no_all (places_at s n) i (omega (arith, are.places n)) (told_is n i place ∙ no_on (omega (arith, wired.earlier n i (place_of n i place))) has)
+      all_is n h is_and ∙ any_some conjunction (places_at s n) i (omega (arith, are.places n)) (told_is n i place ∙ no_on (omega (arith, wired.earlier n i (place_of n i place))) has)
 
   -- what has a value on the board has it by definition
   pub yes_by : (fuel n : ℕ) → n < fuel → n < length wires.parts → truth_at s n ≡ Yes → HasYes (given_by wires s) n
@@ -157,7 +161,7 @@ module _ (wires : Wires) (s : Shown) (wired : IsWired wires) (are : AreWires wir
       go : ((m : ℕ) → m < fuel → m < length wires.parts → truth_at s m ≡ Yes → HasYes (given_by wires s) m) → (k : Kind) → kind_at s n ≡ k → HasYes (given_by wires s) n
       go again Leaf is = HasYes.leaf is (ap (λ (k : Kind). leaf_only k (truth_at s n)) is ∙ e)
       go again And is = HasYes.every is (λ i place. again (part_at wires n i) (omega (arith, wired.earlier n i (place_of n i place))) (omega (arith, wired.earlier n i (place_of n i place)))
-          (sym (told_is n i place) ∙ all_yes_each (places_at s n) (sym (all_is n h is) ∙ e) i (omega (arith, are.places n))))
+          (sym (told_is n i place) ∙ all_each conjunction (places_at s n) (sym (all_is n h is) ∙ e) i (omega (arith, are.places n))))
       go again Or is = let found = some_yes_some (places_at s n) (sym (some_is n h is) ∙ e) in
           let place : found.0 < length (parts_at wires n) = omega (arith, are.places n, found.1) in
           HasYes.some {i = found.0} is place (again (part_at wires n found.0) (omega (arith, wired.earlier n found.0 (place_of n found.0 place))) (omega (arith, wired.earlier n found.0 (place_of n found.0 place)))
@@ -170,8 +174,8 @@ module _ (wires : Wires) (s : Shown) (wired : IsWired wires) (are : AreWires wir
       go : ((m : ℕ) → m < fuel → m < length wires.parts → truth_at s m ≡ No → HasNo (given_by wires s) m) → (k : Kind) → kind_at s n ≡ k → HasNo (given_by wires s) n
       go again Leaf is = HasNo.leaf is (ap (λ (k : Kind). leaf_only k (truth_at s n)) is ∙ e)
       go again Or is = HasNo.every is (λ i place. again (part_at wires n i) (omega (arith, wired.earlier n i (place_of n i place))) (omega (arith, wired.earlier n i (place_of n i place)))
-          (sym (told_is n i place) ∙ some_no_each (places_at s n) (sym (some_is n h is) ∙ e) i (omega (arith, are.places n))))
-      go again And is = let found = all_no_some (places_at s n) (sym (all_is n h is) ∙ e) in
+          (sym (told_is n i place) ∙ all_each disjunction (places_at s n) (sym (some_is n h is) ∙ e) i (omega (arith, are.places n))))
+      go again And is = let found = some_any conjunction (places_at s n) (sym (all_is n h is) ∙ e) in
           let place : found.0 < length (parts_at wires n) = omega (arith, are.places n, found.1) in
           HasNo.some {i = found.0} is place (again (part_at wires n found.0) (omega (arith, wired.earlier n found.0 (place_of n found.0 place))) (omega (arith, wired.earlier n found.0 (place_of n found.0 place)))
           (sym (told_is n found.0 place) ∙ found.2))

@@ -9,7 +9,7 @@ ghost use Rattle.search_values.specs.Entered.{ArePlaces, NoneStruck};
 
 use crate::left::first_left;
 use crate::noted::Noted;
-use crate::number_list::NumberList;
+use search_list::NumberList;
 use crate::up::Up;
 use crate::value::value_at;
 use crate::wiring::Wiring;

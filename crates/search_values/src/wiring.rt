@@ -3,7 +3,7 @@ ghost use Rattle.std.specs.Prelude.{◌≡◌, ◌<◌, ◌+◌, ◌^◌, ◌++�
 ghost use Rattle.search_values.specs.Wiring.{parts_at, part_at, ups_at, up_at, IsWired};
 ghost use Rattle.search_values.specs.WiresUps.{WiresUps};
 
-use crate::number_list::NumberList;
+use search_list::NumberList;
 use crate::up::Up;
 use crate::up_list::UpList;
 use std::alloc::{AllocError, Global};

@@ -1,0 +1,6 @@
+//! Lists of numbers that stand in other lists.
+#![tactic(auto)]
+
+pub mod number_list;
+
+pub use number_list::NumberList;
