@@ -222,13 +222,13 @@ module _ (standing : List Done) (lawful : IsLawful standing) (trees : Trees Link
 
       -- what stands above a task was found
       found_above : (claim : Claim) (number : ℕ) → slice_get list.entries number ≡ Some (entry_of claim.trigger claim.start) → {next end : ℕ} {links : List Link} → Path trees next end links → slice_get list.ends number ≡ Some end → (task : Task) → Contains tasks task → IsNext trees task.node next → (of : ℕ) → Climbs standing links of claim.root → Same standing of task.class → Contains claims claim
-      found_above claim number is (here {node = node} {link = link} has) ends task there below of climbs d =
+      found_above claim number is (here {node = node} {label = link} has) ends task there below of climbs d =
           let step = climb_step climbs in
           ⊎_elim
           (λ p. (all_taken task there node claim.root (above_task task node step.symbol step.place of claim.root link below has step.is d p.1)).claims_found claim (number, is, ends, refl))
           (λ on. absurd (no_climb on.rest))
           step.cases
-      found_above claim number is (down {node = node} {next = next} {end = end} {link = link} has further path) ends task there below of climbs d =
+      found_above claim number is (down {node = node} {next = next} {end = end} {label = link} has further path) ends task there below of climbs d =
           let step = climb_step climbs in
           ⊎_elim
           (λ p. absurd (let some = paths.some trees next end [] (subst (Path trees next end) p.0 path) in omega arith))

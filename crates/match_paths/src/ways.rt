@@ -29,7 +29,6 @@ fn add_way(
     ensures nodes { Extends nodes.old nodes.new }
     ensures entries { ExtendsList entries.old entries.new }
 {
-    growth_law::<Link>();
     entry_law();
     let _nodes = nodes.len();
     let _entries = entries.len();
