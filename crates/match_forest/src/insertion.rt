@@ -27,8 +27,6 @@ fn add_entry(
     ensures nodes { Extends nodes.old nodes.new }
     ensures entries { ExtendsList entries.old entries.new }
 {
-    growth_law::<Instr>();
-    entry_law();
     let _nodes = nodes.len();
     let _entries = entries.len();
     let code = compile(alloc, trigger, start)?;

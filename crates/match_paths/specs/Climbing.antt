@@ -104,7 +104,8 @@ pub record Rises (standing : List Done) (trees : Trees Link) (class : ℕ) (task
   pub is_term : task.class < length (terms_of standing)
 
 -- the way to an entry's end leads up from the class to the claim's root
-pub record IsLed (standing : List Done) (trees : Trees Link) (list : EntryList) (class : ℕ) (claim : Claim) : Type 0 where
+pub record IsLed (standing : List Done) (trees : Trees Link) (list : EntryList) (class : ℕ)
+    (claim : Claim) : Type 0 where
   pub number : ℕ
   pub end : ℕ
   pub is : slice_get list.entries number ≡ Some (entry_of claim.trigger claim.start)

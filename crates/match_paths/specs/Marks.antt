@@ -2,6 +2,7 @@
 use Rattle.std.specs.Prelude.{◌≡◌, ◌<◌, ◌≤◌, ◌↔◌, ℕ, List, length, slice_get, Some}
 use Rattle.match_trees.specs.declared.entry.Entry.{Entry}
 use Rattle.match_trees.specs.declared.mark.Mark.{Mark}
+use Rattle.match_paths.specs.declared.link.Link.{Link}
 use Rattle.match_trees.specs.Trees.{Trees}
 use Rattle.match_trees.specs.EntryList.{EntryList}
 

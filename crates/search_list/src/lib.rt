@@ -1,6 +1,6 @@
-//! Lists of numbers that stand in other lists.
+//! Lists that stand in other lists.
 #![tactic(auto)]
 
-pub mod number_list;
+pub mod short_list;
 
-pub use number_list::NumberList;
+pub use short_list::ShortList;

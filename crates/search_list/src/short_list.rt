@@ -1,31 +1,31 @@
-//! Lists of numbers that are kept in other lists.
-ghost use Rattle.std.specs.Prelude.{◌≡◌, ◌<◌, [], ◌∷◌, ◌++◌, length, take, slice_get, Some, OnOk, OnErr};
+//! Lists that stand in other lists.
+ghost use Rattle.std.specs.Prelude.{◌≡◌, ◌<◌, [], ◌∷◌, ◌++◌, length, take, slice_get, slice_set, Some, OnOk, OnErr};
 
 use std::alloc::{AllocError, Global};
 use std::marker::Model;
 
-/// A list of numbers, of fewer than 2 to the power of 32, which grows and shrinks at its end.
+/// A list of fewer than 2 to the power of 32 items, which grows and shrinks at its end.
 #[derive(Drop)]
-pub struct NumberList {
-    items: Vec<u32>,
+pub struct ShortList<T> {
+    items: Vec<T>,
 }
 
-impl Model for NumberList {
-    ghost use Rattle.std.specs.Prelude.{ℕ, List, ◌<◌, ◌^◌, length};
+impl<T> Model for ShortList<T> {
+    ghost use Rattle.std.specs.Prelude.{List, ◌<◌, ◌^◌, length};
 
-    ghost Value = { List ℕ };
+    ghost Value = { List T };
 
     ghost view = { λ list. list.items.items };
 
     ghost invariant = { λ list. length list.items.items < 2 ^ 32 };
 }
 
-impl NumberList {
+impl<T: Copy> ShortList<T> {
     /// An empty list. It takes no memory.
-    pub fn new(alloc: Global) -> NumberList
+    pub fn new(alloc: Global) -> ShortList<T>
         ensures { result ≡ [] }
     {
-        NumberList {
+        ShortList {
             items: Vec::new(alloc),
         }
     }
@@ -38,15 +38,23 @@ impl NumberList {
     }
 
     /// The i-th one, counted from 0.
-    pub fn get(&self, i: u32) -> u32
+    pub fn get(&self, i: u32) -> T
         requires { i < length self.now }
         ensures { slice_get self.now i ≡ Some result }
     {
         self.items[i as usize]
     }
 
+    /// Changes the i-th one.
+    pub fn set(&mut self, i: u32, item: T)
+        requires { i < length self.old }
+        ensures { self.new ≡ slice_set self.old i item }
+    {
+        self.items[i as usize] = item;
+    }
+
     /// Puts one last. A refusal is want of memory or of room, and the list is as before then.
-    pub fn push(&mut self, item: u32) -> Result<(), AllocError>
+    pub fn push(&mut self, item: T) -> Result<(), AllocError>
         ensures ok { OnOk result (self.new ≡ self.old ++ item ∷ []) }
         ensures err { OnErr result (self.new ≡ self.old) }
     {

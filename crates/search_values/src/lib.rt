@@ -10,12 +10,10 @@ pub mod node_values;
 pub mod noted;
 pub mod telling;
 pub mod up;
-pub mod up_list;
 pub mod value;
 pub mod wiring;
 
 pub use node_values::NodeValues;
 pub use noted::Noted;
 pub use up::Up;
-pub use up_list::UpList;
 pub use wiring::Wiring;
