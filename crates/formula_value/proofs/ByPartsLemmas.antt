@@ -1,5 +1,5 @@
 -- The value of a node, by those of its parts, is that of its formula.
-use Rattle.std.proofs.Common.{◌≡◌, ℕ, ◌+◌, ◌<◌, List, [], ◌∷◌, ◌++◌, length, get_or}
+use Rattle.std.proofs.Common.{◌≡◌, ◌≢◌, ℕ, ◌+◌, ◌<◌, List, [], ◌∷◌, ◌++◌, length, get_or}
 use Rattle.std.proofs.Common.{slice_get, Some, All, Contains, sym, ap, subst, ◌∙◌, ⊎_elim, arith}
 use Rattle.std.proofs.lemmas.List.{length-append}
 use Rattle.std.proofs.lemmas.Option.{get_or_from_slice_get, slice_get-get_or}
@@ -13,6 +13,7 @@ use Rattle.formula_table.specs.Node.{children_of}
 use Rattle.formula_truth.specs.declared.truth.Truth.{Truth}
 use Rattle.formula_truth.specs.declared.truth.Truth.TheVariants.{Yes, No, Unset}
 use Rattle.formula_truth.specs.Truths.{all_of, some_of}
+use Rattle.formula_truth.specs.Joins.{IsJoin, AreJoins}
 use Rattle.formula_value.specs.declared.facts.Facts.{Facts}
 use Rattle.formula_value.specs.Holds as formulas
 use Rattle.formula_value.specs.Holds.{HasNode}
@@ -20,7 +21,6 @@ use Rattle.formula_value.specs.Value.{HasValue, HasValueIn, AreFirstValues, know
 use Rattle.formula_value.specs.ByParts.{values_of, IsLeafValue, IsNodeValue}
 use Rattle.formula_value.proofs.HoldsLaws.{contains_head, contains_later, contains_cases, IsLeaf}
 use Rattle.formula_value.proofs.HoldsLaws.{holds_and, holds_or, holds_leaf, fails_and, fails_or, fails_leaf}
-use Rattle.formula_value.proofs.ConnectiveLemmas.{all_yes, all_no, all_unset, some_yes, some_no, some_unset}
 use Rattle.formula_value.proofs.ValueLaws.{yes_of_leaves, no_of_leaves, not_no, not_yes}
 
 -- each value is that of its formula
@@ -28,7 +28,16 @@ abbrev pub AreValues : Known → List ℕ → List Node → List Truth → Type 
 AreValues known live nodes values =
     (n : ℕ) (truth : Truth) → slice_get values n ≡ Some truth → HasValue known live nodes n truth
 
-module _ (known : Known) (live : List ℕ) (nodes : List Node) (values : List Truth)
+-- what is neither has a part that is neither, and no part that decides
+unset_parts : {of : List Truth → Truth} {each any : Truth} → IsJoin of each any → (any ≡ Unset → ⊥) →
+    (parts : List Truth) → of parts ≡ Unset →
+    Contains parts Unset × ((part : Truth) → Contains parts part → part ≢ any)
+unset_parts join known parts e = (
+  join.unset parts e,
+  λ part c is. known (sym ((join.some parts).1 (subst (Contains parts) is c)) ∙ e),
+)
+
+module _ (joins : AreJoins) (known : Known) (live : List ℕ) (nodes : List Node) (values : List Truth)
     (are : AreValues known live nodes values) where
   -- the value of a part
   value_at : (part : ℕ) → part < length values → HasValue known live nodes part (get_or values part Unset)
@@ -71,11 +80,11 @@ module _ (known : Known) (live : List ℕ) (nodes : List Node) (values : List Tr
     and_value : (truth : Truth) → HasNode nodes n (And parts) → all_of (values_of values parts) ≡ truth →
         HasValue known live nodes n truth
     and_value Yes has e = formulas.Holds.every has (λ part c. subst (HasValue known live nodes part)
-        (all_yes (values_of values parts) e (get_or values part Unset) (part_value parts part c)) (of_part part c))
+        ((joins.conjunction.all (values_of values parts)).0 e (get_or values part Unset) (part_value parts part c)) (of_part part c))
     and_value No has e =
-        let h = part_with parts No below (all_no (values_of values parts) e) in formulas.Fails.some has h.1 h.2
+        let h = part_with parts No below ((joins.conjunction.some (values_of values parts)).0 e) in formulas.Fails.some has h.1 h.2
     and_value Unset has e =
-        let unset = all_unset (values_of values parts) e in
+        let unset = unset_parts joins.conjunction (λ k. cc) (values_of values parts) e in
         let h = part_with parts Unset below unset.0 in (
           λ given. h.2.0 (holds_and (yes_of_leaves known live) has given h.0 h.1),
           λ denied. let f = fails_and (no_of_leaves known live) has denied in
@@ -87,11 +96,11 @@ module _ (known : Known) (live : List ℕ) (nodes : List Node) (values : List Tr
     or_value : (truth : Truth) → HasNode nodes n (Or parts) → some_of (values_of values parts) ≡ truth →
         HasValue known live nodes n truth
     or_value Yes has e =
-        let h = part_with parts Yes below (some_yes (values_of values parts) e) in formulas.Holds.some has h.1 h.2
+        let h = part_with parts Yes below ((joins.disjunction.some (values_of values parts)).0 e) in formulas.Holds.some has h.1 h.2
     or_value No has e = formulas.Fails.every has (λ part c. subst (HasValue known live nodes part)
-        (some_no (values_of values parts) e (get_or values part Unset) (part_value parts part c)) (of_part part c))
+        ((joins.disjunction.all (values_of values parts)).0 e (get_or values part Unset) (part_value parts part c)) (of_part part c))
     or_value Unset has e =
-        let unset = some_unset (values_of values parts) e in
+        let unset = unset_parts joins.disjunction (λ k. cc) (values_of values parts) e in
         let h = part_with parts Unset below unset.0 in (
           λ given. let f = holds_or (yes_of_leaves known live) has given in
               not_yes known live nodes f.0 (get_or values f.0 Unset) (of_part f.0 f.1)
@@ -133,12 +142,12 @@ module _ (known : Known) (live : List ℕ) (nodes : List Node) (values : List Tr
       (push_cases values truth n value at)
 
 -- the first values with that of the next node
-pub next_first_values : (standing : List Done) (facts : Facts) (nodes : List Node) (n : ℕ) (values new : List Truth)
+pub next_first_values : AreJoins → (standing : List Done) (facts : Facts) (nodes : List Node) (n : ℕ) (values new : List Truth)
     (node : Node) (truth : Truth) → AreFirstValues standing facts nodes n values → HasNode nodes n node →
     All (λ part. part < n) (children_of node) →
     IsNodeValue (known_with standing facts) facts.live values node truth → new ≡ values ++ truth ∷ [] →
     AreFirstValues standing facts nodes (n + 1) new
-next_first_values standing facts nodes n values new node truth first has below value pushed =
+next_first_values joins standing facts nodes n values new node truth first has below value pushed =
     let known = known_with standing facts in
     let here : HasNode nodes (length values) node = subst (λ k. HasNode nodes k node) (sym first.so_many) has in
     let earlier : All (λ part. part < length values) (children_of node) =
@@ -146,7 +155,7 @@ next_first_values standing facts nodes n values new node truth first has below v
     record {
       so_many = ap length pushed ∙ length-append values (truth ∷ []) ∙ ap (λ k. k + 1) first.so_many;
       each = subst (AreValues known facts.live nodes) (sym pushed)
-          (next_value known facts.live nodes values first.each node truth here earlier value);
+          (next_value joins known facts.live nodes values first.each node truth here earlier value);
     }
 
 -- the value at a place

@@ -11,6 +11,7 @@ use crate::facts::Facts;
 use crate::leaf::{atom_value, equation_value, is_live, turned};
 use formula_table::{FormulaTable, Node};
 use formula_truth::Truth;
+use formula_truth::laws::joining_law;
 use graph_meaning::ClassGraph;
 use graph_terms::Memory;
 use std::alloc::Global;
@@ -62,6 +63,7 @@ fn first_values<G: ClassGraph>(
     requires facts { AreFacts (length (terms_of (G.standing graph.now))) facts.now }
     ensures { IfOk result (λ values. AreFirstValues (G.standing graph.now) facts.now table.now.nodes count values.items) }
 {
+    joining_law();
     let _lawful = table.len();
     let mut values = Vec::new(alloc);
     for n in 0..count {

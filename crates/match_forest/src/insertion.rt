@@ -1,22 +1,21 @@
 //! The entries of a trigger.
 ghost use Rattle.std.specs.Prelude.{◌<◌, length, OnOk};
 ghost use Rattle.graph_trigger.specs.Trigger.{IsValid};
-ghost use Rattle.match_forest.specs.NodesInside.{Extends};
-ghost use Rattle.match_forest.specs.EntryList.{ExtendsList};
+ghost use Rattle.match_trees.specs.Growth.{Extends};
+ghost use Rattle.match_trees.specs.EntryList.{ExtendsList};
 ghost use Rattle.match_forest.specs.ForestInside.{Enters, EntersOne};
 
-use crate::entry::Entry;
-use crate::entry_table::EntryTable;
-use crate::node_table::NodeTable;
 use graph_terms::Memory;
 use graph_trigger::Trigger;
-use match_code::compile;
+use match_code::{Instr, compile};
+use match_trees::laws::{entry_law, growth_law};
+use match_trees::{Entry, EntryTable, NodeTable};
 use std::alloc::Global;
 
 /// Puts the entry of one start last, and its code into the trees.
 fn add_entry(
     alloc: Global,
-    nodes: &mut NodeTable,
+    nodes: &mut NodeTable<Instr>,
     entries: &mut EntryTable,
     trigger: &Trigger,
     number: u32,
@@ -31,7 +30,7 @@ fn add_entry(
     let _nodes = nodes.len();
     let _entries = entries.len();
     let code = compile(alloc, trigger, start)?;
-    let end = nodes.put_code(alloc, &code)?;
+    let end = nodes.put_way(alloc, code.as_slice())?;
     let entry = Entry {
         trigger: number,
         start,
@@ -43,7 +42,7 @@ fn add_entry(
 /// Puts an entry for each start of the trigger last, and their codes into the trees.
 pub fn add_entries(
     alloc: Global,
-    nodes: &mut NodeTable,
+    nodes: &mut NodeTable<Instr>,
     entries: &mut EntryTable,
     trigger: &Trigger,
     number: u32,
@@ -53,6 +52,8 @@ pub fn add_entries(
     ensures nodes { Extends nodes.old nodes.new }
     ensures entries { ExtendsList entries.old entries.new }
 {
+    growth_law::<Instr>();
+    entry_law();
     let _nodes = nodes.len();
     let _entries = entries.len();
     for start in 0..trigger.roots.len() {

@@ -4,49 +4,18 @@ use Rattle.std.proofs.lemmas.Bool.{cases_lt}
 use Rattle.std.proofs.lemmas.List.{take_all, take-take, take-append-le}
 use Rattle.std.proofs.lemmas.Option.{slice_get_within}
 use Rattle.graph_terms.proofs.ListLaws.{push_cases, slice_get-push}
-use Rattle.match_paths.specs.declared.entry.Entry.{Entry}
+use Rattle.match_trees.specs.declared.entry.Entry.{Entry}
 use Rattle.match_paths.specs.declared.link.Link.{Link}
-use Rattle.match_paths.specs.Trees.{Trees, Way, AreTrees}
-use Rattle.match_paths.specs.NodesInside.{Leads}
-use Rattle.match_paths.specs.EntryList.{EntryList, ExtendsList, with_entry}
-use Rattle.match_paths.specs.Climbing.{entry_of}
+use Rattle.match_trees.specs.Trees.{Trees, Way, AreTrees}
+use Rattle.match_trees.specs.Growth.{Leads}
+use Rattle.match_trees.specs.TreeLaws.{GrowthLaws, EntryLaws}
+use Rattle.match_trees.specs.EntryList.{EntryList, ExtendsList, with_entry, entry_of}
 use Rattle.match_paths.specs.Wants.{AddsWays, IsThisWay}
-use Rattle.match_paths.proofs.NodeLemmas.{extends_same, extends_on, way_extends}
 use Rattle.match_paths.proofs.WantLemmas.{still_entry, still_end, old_entry, old_end}
 
--- a list extends itself
-pub list_same : (list : EntryList) → length list.ends ≡ length list.entries → ExtendsList list list
-list_same list same = record { within = omega arith; front = ap₂ (λ es ns. record { entries = es; ends = ns }) (take_all (length list.entries) list.entries (omega arith)) (take_all (length list.entries) list.ends (omega (arith, same))) }
-
--- and with one entry more
-pub list_with : (list : EntryList) (entry : Entry) (end : ℕ) → length list.ends ≡ length list.entries → ExtendsList list (with_entry list entry end)
-list_with list entry end same = record {
-  within = omega (arith, length-append list.entries (entry ∷ []));
-  front = ap₂ (λ es ns. record { entries = es; ends = ns })
-      (take-append-le (length list.entries) list.entries (entry ∷ []) (omega arith) ∙ take_all (length list.entries) list.entries (omega arith))
-      (take-append-le (length list.entries) list.ends (end ∷ []) (omega (arith, same)) ∙ take_all (length list.entries) list.ends (omega (arith, same)));
-}
-
-pub list_on : (a b c : EntryList) → ExtendsList a b → ExtendsList b c → ExtendsList a c
-list_on a b c one two = record {
-  within = omega (arith, one.within, two.within);
-  front = ap₂ (λ es ns. record { entries = es; ends = ns })
-      (sym (take-take (length a.entries) (length b.entries) c.entries one.within) ∙ ap (λ (l : EntryList). take (length a.entries) l.entries) two.front ∙ ap (λ (l : EntryList). l.entries) one.front)
-      (sym (take-take (length a.entries) (length b.entries) c.ends one.within) ∙ ap (λ (l : EntryList). take (length a.entries) l.ends) two.front ∙ ap (λ (l : EntryList). l.ends) one.front);
-}
-
+-- the same are wanted
 module _ (number : ℕ) (P : ℕ → Link → List Link → Type 0) where
-  -- no way is wanted
-  pub ways_none : (trees : Trees) (list : EntryList) → AreTrees trees → length list.ends ≡ length list.entries → ((start : ℕ) (begin : Link) (links : List Link) → P start begin links → ⊥) → AddsWays number P trees trees list list
-  ways_none trees list are same none = record {
-    trees_extend = extends_same trees are;
-    list_extends = list_same list same;
-    sound = λ n end entry past has ends. absurd (let lt = slice_get_within list.entries n entry has in omega (arith, lt, past));
-    complete = λ start begin links p. absurd (none start begin links p);
-  }
-
-  -- the same are wanted
-  pub ways_as : (Q : ℕ → Link → List Link → Type 0) (trees trees' : Trees) (list list' : EntryList) → ((start : ℕ) (begin : Link) (links : List Link) → P start begin links → Q start begin links) → ((start : ℕ) (begin : Link) (links : List Link) → Q start begin links → P start begin links) → AddsWays number P trees trees' list list' → AddsWays number Q trees trees' list list'
+  pub ways_as : (Q : ℕ → Link → List Link → Type 0) (trees trees' : Trees Link) (list list' : EntryList) → ((start : ℕ) (begin : Link) (links : List Link) → P start begin links → Q start begin links) → ((start : ℕ) (begin : Link) (links : List Link) → Q start begin links → P start begin links) → AddsWays number P trees trees' list list' → AddsWays number Q trees trees' list list'
   ways_as Q trees trees' list list' forth back adds = record {
     trees_extend = adds.trees_extend;
     list_extends = adds.list_extends;
@@ -54,28 +23,38 @@ module _ (number : ℕ) (P : ℕ → Link → List Link → Type 0) where
     complete = λ start begin links q. adds.complete start begin links (back start begin links q);
   }
 
+module _ (grows : GrowthLaws Link) (lists : EntryLaws) (number : ℕ) (P : ℕ → Link → List Link → Type 0) where
+  -- no way is wanted
+  pub ways_none : (trees : Trees Link) (list : EntryList) → AreTrees trees → length list.ends ≡ length list.entries → ((start : ℕ) (begin : Link) (links : List Link) → P start begin links → ⊥) → AddsWays number P trees trees list list
+  ways_none trees list are same none = record {
+    trees_extend = grows.same trees are;
+    list_extends = lists.same list same;
+    sound = λ n end entry past has ends. absurd (let lt = slice_get_within list.entries n entry has in omega (arith, lt, past));
+    complete = λ start begin links p. absurd (none start begin links p);
+  }
+
   -- these are wanted, and then those
-  pub ways_both : (Q R : ℕ → Link → List Link → Type 0) (trees trees' trees'' : Trees) (list list' list'' : EntryList) → length list'.ends ≡ length list'.entries → ((start : ℕ) (begin : Link) (links : List Link) → P start begin links → R start begin links) → ((start : ℕ) (begin : Link) (links : List Link) → Q start begin links → R start begin links) → ((start : ℕ) (begin : Link) (links : List Link) → R start begin links → P start begin links ⊎ Q start begin links) → AddsWays number P trees trees' list list' → AddsWays number Q trees' trees'' list' list'' → AddsWays number R trees trees'' list list''
+  pub ways_both : (Q R : ℕ → Link → List Link → Type 0) (trees trees' trees'' : Trees Link) (list list' list'' : EntryList) → length list'.ends ≡ length list'.entries → ((start : ℕ) (begin : Link) (links : List Link) → P start begin links → R start begin links) → ((start : ℕ) (begin : Link) (links : List Link) → Q start begin links → R start begin links) → ((start : ℕ) (begin : Link) (links : List Link) → R start begin links → P start begin links ⊎ Q start begin links) → AddsWays number P trees trees' list list' → AddsWays number Q trees' trees'' list' list'' → AddsWays number R trees trees'' list list''
   ways_both Q R trees trees' trees'' list list' list'' same one other cases p q = record {
-    trees_extend = extends_on trees trees' trees'' p.trees_extend q.trees_extend;
-    list_extends = list_on list list' list'' p.list_extends q.list_extends;
+    trees_extend = grows.on trees trees' trees'' p.trees_extend q.trees_extend;
+    list_extends = lists.on list list' list'' p.list_extends q.list_extends;
     sound = λ n end entry past has ends.
         ⊎_elim
-        (λ old. let s = p.sound n end entry past (old_entry list' list'' q.list_extends same n entry old has) (old_end list' list'' q.list_extends same n end old ends) in (s.0, (s.1.0, s.1.1, way_extends q.trees_extend s.1.2, one entry.start s.1.0 s.1.1 s.1.3)))
+        (λ old. let s = p.sound n end entry past (old_entry list' list'' q.list_extends same n entry old has) (old_end list' list'' q.list_extends same n end old ends) in (s.0, (s.1.0, s.1.1, grows.way trees' trees'' end (s.1.0 ∷ s.1.1) q.trees_extend s.1.2, one entry.start s.1.0 s.1.1 s.1.3)))
         (λ new. let s = q.sound n end entry new has ends in (s.0, (s.1.0, s.1.1, s.1.2, other entry.start s.1.0 s.1.1 s.1.3)))
         (cases_lt n (length list'.entries));
     complete = λ start begin links r.
         ⊎_elim
-        (λ h. let c = p.complete start begin links h in (c.0, c.1, still_entry list' list'' q.list_extends same c.0 (entry_of number start) c.2, still_end list' list'' q.list_extends same c.0 c.1 c.3, way_extends q.trees_extend c.4))
+        (λ h. let c = p.complete start begin links h in (c.0, c.1, still_entry list' list'' q.list_extends same c.0 (entry_of number start) c.2, still_end list' list'' q.list_extends same c.0 c.1 c.3, grows.way trees' trees'' c.1 (begin ∷ links) q.trees_extend c.4))
         (λ h. q.complete start begin links h)
         (cases start begin links r);
   }
 
 -- one way comes
-pub ways_one : (number start end : ℕ) (begin : Link) (links : List Link) (trees trees' : Trees) (list : EntryList) → length list.ends ≡ length list.entries → Leads trees trees' (begin ∷ links) end → AddsWays number (IsThisWay start begin links) trees trees' list (with_entry list (entry_of number start) end)
-ways_one number start end begin links trees trees' list same leads = record {
+pub ways_one : EntryLaws → (number start end : ℕ) (begin : Link) (links : List Link) (trees trees' : Trees Link) (list : EntryList) → length list.ends ≡ length list.entries → Leads trees trees' (begin ∷ links) end → AddsWays number (IsThisWay start begin links) trees trees' list (with_entry list (entry_of number start) end)
+ways_one lists number start end begin links trees trees' list same leads = record {
   trees_extend = leads.extends;
-  list_extends = list_with list (entry_of number start) end same;
+  list_extends = lists.more list (entry_of number start) end same;
   sound = λ n other entry past has ends.
       ⊎_elim (λ old. absurd (let lt = slice_get_within list.entries n entry old in omega (arith, lt, past)))
       (λ new.

@@ -12,10 +12,10 @@ use Rattle.graph_meaning.specs.declared.done.Done.{Done}
 use Rattle.graph_meaning.specs.Same.{Same}
 use Rattle.graph_meaning.specs.Questions.{AreAll, IsNth, IsParent}
 use Rattle.graph_meaning.specs.declared.claim.Claim.{Claim}
-use Rattle.match_paths.specs.declared.entry.Entry.{Entry}
+use Rattle.match_trees.specs.declared.entry.Entry.{Entry}
 use Rattle.match_paths.specs.declared.task.Task.{Task}
-use Rattle.match_paths.specs.EntryList.{EntryList}
-use Rattle.match_paths.specs.Climbing.{GrewTo, PutsIn, entry_of, IsClaimAt, FindsAt, IsTaskAt, IsClimbed, ClimbsAll, IsThis, IsParentAt}
+use Rattle.match_trees.specs.EntryList.{EntryList, entry_of}
+use Rattle.match_paths.specs.Climbing.{GrewTo, PutsIn, IsClaimAt, FindsAt, IsTaskAt, IsClimbed, ClimbsAll, IsThis, IsParentAt}
 
 module _ {X : Type 0} where
   pub grew_none : (P : X → Type 0) (xs : List X) → GrewTo P xs xs

@@ -1,14 +1,10 @@
 pub mod InvertedLaws
-pub mod IndexLemmas
-pub mod WayLemmas
-pub mod NodeLemmas
 pub mod TaskLemmas
 pub mod ClaimLemmas
 pub mod ClimbLemmas
 pub mod TurnLemmas
 pub mod PathsLemmas
 pub mod OccurrenceLemmas
-pub mod OneWayLemmas
 pub mod WantLemmas
 pub mod AddLemmas
 pub mod PairLemmas

@@ -5,25 +5,23 @@ use Rattle.std.proofs.lemmas.List.{length-take, length-take-le}
 use Rattle.std.proofs.lemmas.Option.{none-some, slice_get_within}
 use Rattle.graph_terms.proofs.ListLaws.{push_cases, slice_get-take, slice_get-take_below, element_at}
 use Rattle.graph_trigger.specs.declared.trigger.Trigger.{Trigger}
-use Rattle.match_paths.specs.declared.entry.Entry.{Entry}
-use Rattle.match_paths.specs.declared.mark.Mark.{Mark}
+use Rattle.match_trees.specs.declared.entry.Entry.{Entry}
+use Rattle.match_trees.specs.declared.mark.Mark.{Mark}
 use Rattle.match_paths.specs.declared.link.Link.{Link}
-use Rattle.match_paths.specs.Trees.{Trees, Way, AreTrees, trees_front}
-use Rattle.match_paths.specs.NodesInside.{Extends}
-use Rattle.match_paths.specs.EntryList.{EntryList, list_front}
-use Rattle.match_paths.specs.Climbing.{entry_of}
+use Rattle.match_trees.specs.Trees.{Trees, Way, AreTrees, trees_front}
+use Rattle.match_trees.specs.Growth.{Extends}
+use Rattle.match_trees.specs.TreeLaws.{PathLaws, GrowthLaws}
+use Rattle.match_trees.specs.EntryList.{EntryList, list_front, entry_of}
 use Rattle.match_paths.specs.Wants.{AddsWays}
 use Rattle.match_paths.specs.Marks.{IsMark, AreMarks}
 use Rattle.match_paths.specs.Paths.{Serves}
-use Rattle.match_paths.proofs.WayLemmas.{path_end, way_cut}
-use Rattle.match_paths.proofs.NodeLemmas.{way_extends}
 use Rattle.match_paths.proofs.WantLemmas.{old_entry, old_end}
 
 -- how much stands
-abbrev pub mark_of : Trees → EntryList → Mark
-mark_of trees list = record { nodes = length trees.links; entries = length list.entries }
+abbrev pub mark_of : Trees Link → EntryList → Mark
+mark_of trees list = record { nodes = length trees.labels; entries = length list.entries }
 
-module _ (trees trees' : Trees) (list list' : EntryList) (marks : List Mark) (P : ℕ → Link → List Link → Type 0) (same : length list.ends ≡ length list.entries) (same' : length list'.ends ≡ length list'.entries) (are : AreMarks trees list marks) (adds : AddsWays (length marks) P trees trees' list list') where
+module _ (paths : PathLaws Link) (trees trees' : Trees Link) (list list' : EntryList) (marks : List Mark) (P : ℕ → Link → List Link → Type 0) (same : length list.ends ≡ length list.entries) (same' : length list'.ends ≡ length list'.entries) (are : AreMarks trees list marks) (adds : AddsWays (length marks) P trees trees' list list') where
   entry_cases : (n : ℕ) (entry : Entry) → slice_get list'.entries n ≡ Some entry → ((n < length list.entries) × (slice_get list.entries n ≡ Some entry)) ⊎ ((length list.entries ≤ n) × (entry.trigger ≡ length marks))
   entry_cases n entry at = ⊎_elim (λ old. inl (old, old_entry list list' adds.list_extends same n entry old at))
       (λ new. let end = element_at list'.ends n (let lt = slice_get_within list'.entries n entry at in omega (arith, lt, same')) in inr (new, (adds.sound n end.0 entry new at end.1).0))
@@ -63,7 +61,7 @@ module _ (trees trees' : Trees) (list list' : EntryList) (marks : List Mark) (P 
     ends = λ n end at.
         ⊎_elim
         (λ old. let lt = are.ends n end (old_end list list' adds.list_extends same n end old at) in omega (arith, lt, adds.trees_extend.within))
-        (λ new. let entry = element_at list'.entries n (let lt = slice_get_within list'.ends n end at in omega (arith, lt, same')) in path_end (adds.sound n end entry.0 new entry.1 at).1.2.path)
+        (λ new. let entry = element_at list'.entries n (let lt = slice_get_within list'.ends n end at in omega (arith, lt, same')) in let its = (adds.sound n end entry.0 new entry.1 at).1 in paths.within trees' its.2.root end (its.0 ∷ its.1) its.2.path)
         (cases_lt n (length list.entries));
   }
 
@@ -71,7 +69,7 @@ module _ (trees trees' : Trees) (list list' : EntryList) (marks : List Mark) (P 
 below_front : {X : Type 0} (n : ℕ) (xs : List X) (i : ℕ) (x : X) → slice_get (take n xs) i ≡ Some x → i < n
 below_front n xs i x has = let lt = slice_get_within (take n xs) i x has in omega (arith, lt, length-take n xs)
 
-module _ (trees : Trees) (list : EntryList) (marks : List Mark) (are : AreMarks trees list marks) (n : ℕ) (mark : Mark) (at : slice_get marks n ≡ Some mark) where
+module _ (trees : Trees Link) (list : EntryList) (marks : List Mark) (are : AreMarks trees list marks) (n : ℕ) (mark : Mark) (at : slice_get marks n ≡ Some mark) where
   own : IsMark trees list n mark
   own = are.each n mark at
 
@@ -84,7 +82,7 @@ module _ (trees : Trees) (list : EntryList) (marks : List Mark) (are : AreMarks 
         let is = are.each number m there in
         let le = are.rising number n m mark (omega arith) there at in
         record {
-          nodes = omega (arith, le.0, length-take-le mark.nodes trees.links own.nodes);
+          nodes = omega (arith, le.0, length-take-le mark.nodes trees.labels own.nodes);
           entries = omega (arith, le.1, length-take-le mark.entries list.entries own.entries);
           splits = λ k entry has. is.splits k entry (slice_get-take mark.entries list.entries k entry has);
           ends = λ k end less has. is.ends k end less (slice_get-take mark.entries list.ends k end has);
@@ -95,15 +93,15 @@ module _ (trees : Trees) (list : EntryList) (marks : List Mark) (are : AreMarks 
         let less = (own.splits k entry (slice_get-take mark.entries list.entries k entry has)).1 lt in
         let within = slice_get_within marks n mark at in
         omega (arith, less, length-take-le n marks (omega (arith, within)));
-    ends = λ k end has. let less = own.ends k end (below_front mark.entries list.ends k end has) (slice_get-take mark.entries list.ends k end has) in omega (arith, less, length-take-le mark.nodes trees.links own.nodes);
+    ends = λ k end has. let less = own.ends k end (below_front mark.entries list.ends k end has) (slice_get-take mark.entries list.ends k end has) in omega (arith, less, length-take-le mark.nodes trees.labels own.nodes);
   }
 
   front_extends : Extends (trees_front mark.nodes trees) trees
-  front_extends = record { within = omega (arith, length-take-le mark.nodes trees.links own.nodes, own.nodes); front = ap (λ k. trees_front k trees) (length-take-le mark.nodes trees.links own.nodes) }
+  front_extends = record { within = omega (arith, length-take-le mark.nodes trees.labels own.nodes, own.nodes); front = ap (λ k. trees_front k trees) (length-take-le mark.nodes trees.labels own.nodes) }
 
-  module _ (all : List Trigger) (sound_trees : AreTrees trees) (serves : Serves (record { trees = trees; list = list; triggers = length marks }) all) where
+  module _ (grows : GrowthLaws Link) (all : List Trigger) (sound_trees : AreTrees trees) (serves : Serves (record { trees = trees; list = list; triggers = length marks }) all) where
     cut_way : (end : ℕ) (code : List Link) → end < mark.nodes → Way trees end code → Way (trees_front mark.nodes trees) end code
-    cut_way end code less way = way_cut mark.nodes sound_trees.later less way
+    cut_way end code less way = grows.cut mark.nodes trees end code sound_trees less way
 
     pub serves_cut : Serves (record { trees = trees_front mark.nodes trees; list = list_front mark.entries list; triggers = length (take n marks) }) (take n all)
     serves_cut = record {
@@ -116,7 +114,7 @@ module _ (trees : Trees) (list : EntryList) (marks : List Mark) (are : AreMarks 
       sound = λ k end entry begin links has ends way.
           let lt = below_front mark.entries list.entries k entry has in
           let has_there = slice_get-take mark.entries list.entries k entry has in
-          let of = serves.sound k end entry begin links has_there (slice_get-take mark.entries list.ends k end ends) (way_extends front_extends way) in
+          let of = serves.sound k end entry begin links has_there (slice_get-take mark.entries list.ends k end ends) (grows.way (trees_front mark.nodes trees) trees end (begin ∷ links) front_extends way) in
           (of.0, slice_get-take_below n all entry.trigger of.0 ((own.splits k entry has_there).1 lt) of.1, of.2);
       all = λ number start trigger begin links has inverted.
           let lt = below_front n all number trigger has in

@@ -8,8 +8,8 @@ use Rattle.graph_trigger.specs.declared.trigger.Trigger.{Trigger}
 use Rattle.graph_trigger.specs.declared.pattern_row.PatternRow.TheVariants.{App}
 use Rattle.graph_trigger.specs.Trigger.{Occurs, at_root}
 use Rattle.graph_trigger.specs.Trigger as pattern
-use Rattle.match_steps.proofs.FollowLaws.{same_symbol, same_parts}
-use Rattle.match_steps.proofs.StepLaws.{slice_get-front}
+use Rattle.match_laws.proofs.FollowLaws.{same_symbol, same_parts}
+use Rattle.match_laws.proofs.StepLaws.{slice_get-front}
 use Rattle.match_paths.specs.declared.occurrence.Occurrence.{Occurrence}
 use Rattle.match_paths.specs.Occurrences.{LinksOf, root, below, IsOccurrence, IsAmong, AreOccurrences, part_at, IsPartOf, AreParts, ArePartsIn, AreRoots}
 

@@ -9,7 +9,8 @@ use Rattle.graph_meaning.specs.Justified.{JoinedSince}
 use Rattle.graph_meaning.specs.Standing.{triggers_of}
 use Rattle.match_paths.specs.Inverted.{LeadsUp}
 use Rattle.match_paths.proofs.InvertedLaws.{leads_up, leads_through}
-use Rattle.match_paths.specs.Climbing.{entry_of, FindsAll}
+use Rattle.match_paths.specs.Climbing.{FindsAll}
+use Rattle.match_trees.specs.EntryList.{entry_of}
 use Rattle.match_paths.specs.Paths.{Paths, Serves, AreThrough, AreJustified}
 
 pub found_through : (standing : List Done) (paths : Paths) (triggers : List Trigger) (class : ℕ) (claims : List Claim) → Serves paths triggers → FindsAll standing paths.trees paths.list class claims → AreThrough standing triggers class claims

@@ -8,20 +8,18 @@ use Rattle.graph_trigger.specs.declared.pattern_row.PatternRow.TheVariants.{Var,
 use Rattle.graph_trigger.specs.Trigger.{Occurs, IsValid, IsApplication}
 use Rattle.graph_trigger.specs.Trigger as pattern
 use Rattle.graph_meaning.specs.Justified.{AppliesAt}
-use Rattle.match_steps.proofs.FollowLaws.{same_symbol, same_parts}
-use Rattle.match_paths.specs.declared.entry.Entry.{Entry}
+use Rattle.match_laws.proofs.FollowLaws.{same_symbol, same_parts}
+use Rattle.match_trees.specs.declared.entry.Entry.{Entry}
 use Rattle.match_paths.specs.declared.link.Link.{Link}
 use Rattle.match_paths.specs.declared.link.Link.TheVariants.{Above}
 use Rattle.match_paths.specs.declared.occurrence.Occurrence.{Occurrence}
-use Rattle.match_paths.specs.Trees.{Trees, Way, AreTrees}
-use Rattle.match_paths.specs.EntryList.{EntryList, ExtendsList}
-use Rattle.match_paths.specs.Climbing.{entry_of}
+use Rattle.match_trees.specs.Trees.{Trees, Way, AreTrees}
+use Rattle.match_trees.specs.TreeLaws.{WayLaws, GrowthLaws}
+use Rattle.match_trees.specs.EntryList.{EntryList, ExtendsList, entry_of}
 use Rattle.match_paths.specs.Inverted.{AreLinks, last, next, BeginsAt, child, parent, IsInverted}
 use Rattle.match_paths.specs.Occurrences.{LinksOf, root, below, IsOccurrence, IsAmong, AreOccurrences}
 use Rattle.match_paths.specs.Wants.{BeginsFrom, application, variable, IsWanted, AddsWays}
 use Rattle.match_paths.specs.Paths.{Paths, Serves}
-use Rattle.match_paths.proofs.NodeLemmas.{way_extends}
-use Rattle.match_paths.proofs.OneWayLemmas.{one_way}
 
 -- what stands above a place
 record AboveOf (trigger : Trigger) (start place : ℕ) (path : List ℕ) (part : ℕ) : Type 0 where
@@ -178,12 +176,12 @@ same_front : (a b : Link) (xs ys : List Link) → a ∷ xs ≡ b ∷ ys → (a �
 same_front a b xs ys e = (cc, cc)
 
 -- a trigger comes, with the ways of exactly its inverted paths
-pub serves_more : (paths : Paths) (trees' : Trees) (list' : EntryList) (triggers : List Trigger) (trigger : Trigger) → AreTrees trees' → length paths.list.ends ≡ length paths.list.entries → length list'.ends ≡ length list'.entries → Serves paths triggers → AddsWays (length triggers) (IsInverted trigger) paths.trees trees' paths.list list' → Serves (record { trees = trees'; list = list'; triggers = paths.triggers + 1 }) (triggers ++ trigger ∷ [])
-serves_more paths trees' list' triggers trigger are same same' serves adds = record {
+pub serves_more : WayLaws Link → GrowthLaws Link → (paths : Paths) (trees' : Trees Link) (list' : EntryList) (triggers : List Trigger) (trigger : Trigger) → AreTrees trees' → length paths.list.ends ≡ length paths.list.entries → length list'.ends ≡ length list'.entries → Serves paths triggers → AddsWays (length triggers) (IsInverted trigger) paths.trees trees' paths.list list' → Serves (record { trees = trees'; list = list'; triggers = paths.triggers + 1 }) (triggers ++ trigger ∷ [])
+serves_more ways grows paths trees' list' triggers trigger are same same' serves adds = record {
   many = omega (arith, serves.many, length-append triggers (trigger ∷ []));
   led = λ n end at.
       ⊎_elim
-      (λ old. let way = serves.led n end (old_end list list' adds.list_extends same n end old at) in (way.0, way_extends adds.trees_extend way.1))
+      (λ old. let way = serves.led n end (old_end list list' adds.list_extends same n end old at) in (way.0, grows.way paths.trees trees' end way.0 adds.trees_extend way.1))
       (λ new.
       let lt = slice_get_within list'.ends n end at in
       let entry = element_at list'.entries n (omega (arith, lt, same')) in
@@ -195,20 +193,20 @@ serves_more paths trees' list' triggers trigger are same same' serves adds = rec
       (λ old.
       let old_ends = old_end list list' adds.list_extends same n end old ends in
       let there = serves.led n end old_ends in
-      let one : there.0 ≡ begin ∷ links = one_way trees' are end there.0 (begin ∷ links) (way_extends adds.trees_extend there.1) way in
+      let one : there.0 ≡ begin ∷ links = ways.one_way trees' end there.0 (begin ∷ links) are (grows.way paths.trees trees' end there.0 adds.trees_extend there.1) way in
       let of = serves.sound n end entry begin links (old_entry list list' adds.list_extends same n entry old has) old_ends (subst (Way paths.trees end) one there.1) in
       (of.0, slice_get-append_left triggers (trigger ∷ []) entry.trigger of.0 of.1, of.2))
       (λ new.
       let added = adds.sound n end entry new has ends in
       let its = added.1 in
-      let one = same_front its.0 begin its.1 links (one_way trees' are end (its.0 ∷ its.1) (begin ∷ links) its.2 way) in
+      let one = same_front its.0 begin its.1 links (ways.one_way trees' end (its.0 ∷ its.1) (begin ∷ links) are its.2 way) in
       (trigger, subst (λ k. slice_get (triggers ++ trigger ∷ []) k ≡ Some trigger) (sym added.0) (slice_get-push triggers trigger), subst (IsInverted trigger entry.start begin) one.1 (subst (λ (b : Link). IsInverted trigger entry.start b its.1) one.0 its.3)))
       (cases_lt n (length list.entries));
   all = λ number start other begin links at inverted.
       ⊎_elim
       (λ old.
       let of = serves.all number start other begin links old inverted in
-      (of.0, of.1, still_entry list list' adds.list_extends same of.0 (entry_of number start) of.2, still_end list list' adds.list_extends same of.0 of.1 of.3, way_extends adds.trees_extend of.4))
+      (of.0, of.1, still_entry list list' adds.list_extends same of.0 (entry_of number start) of.2, still_end list list' adds.list_extends same of.0 of.1 of.3, grows.way paths.trees trees' of.1 (begin ∷ links) adds.trees_extend of.4))
       (λ new.
       let of = adds.complete start begin links (subst (λ (t : Trigger). IsInverted t start begin links) new.1 inverted) in
       (of.0, of.1, subst (λ k. slice_get list'.entries of.0 ≡ Some (entry_of k start)) (sym new.0) of.2, of.3, of.4))

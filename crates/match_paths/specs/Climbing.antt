@@ -5,12 +5,12 @@ use Rattle.graph_meaning.specs.Standing.{terms_of}
 use Rattle.graph_meaning.specs.Same.{Same}
 use Rattle.graph_meaning.specs.Questions.{IsParent}
 use Rattle.graph_meaning.specs.declared.claim.Claim.{Claim}
-use Rattle.match_paths.specs.declared.entry.Entry.{Entry}
+use Rattle.match_trees.specs.declared.entry.Entry.{Entry}
 use Rattle.match_paths.specs.declared.link.Link.{Link}
 use Rattle.match_paths.specs.declared.link.Link.TheVariants.{Above}
 use Rattle.match_paths.specs.declared.task.Task.{Task}
-use Rattle.match_paths.specs.Trees.{Trees, IsNext, IsRoot, Way}
-use Rattle.match_paths.specs.EntryList.{EntryList}
+use Rattle.match_trees.specs.Trees.{Trees, IsNext, IsRoot, Way}
+use Rattle.match_trees.specs.EntryList.{EntryList, entry_of}
 use Rattle.match_paths.specs.Inverted.{Begins, Climbs}
 
 -- the list grew by such elements
@@ -23,10 +23,6 @@ pub record GrewTo {X : Type 0} (P : X → Type 0) (old new : List X) : Type 0 wh
 pub record PutsIn {X : Type 0} (old new : List X) (x : X) : Type 0 where
   pub grew : GrewTo (λ other. other ≡ x) old new
   pub has : Contains new x
-
--- the entry of a trigger and a start
-abbrev pub entry_of : ℕ → ℕ → Entry
-entry_of trigger start = record { trigger = trigger; start = start }
 
 -- an entry that ends at the node claims the root
 abbrev pub IsClaimAt : EntryList → ℕ → ℕ → Claim → Type 0
@@ -67,38 +63,38 @@ IsParentAt standing class symbol place node other parent = (other ≡ node) ×
     IsParent standing class symbol place parent
 
 -- a parent of the task's class along the link of a node next after the task's
-abbrev pub IsAboveTask : List Done → Trees → Task → ℕ → ℕ → Type 0
+abbrev pub IsAboveTask : List Done → Trees Link → Task → ℕ → ℕ → Type 0
 IsAboveTask standing trees task node parent = (symbol : ℕ) × (place : ℕ) × IsNext trees task.node node ×
-    (slice_get trees.links node ≡ Some (Above symbol place)) × IsParent standing task.class symbol place parent
+    (slice_get trees.labels node ≡ Some (Above symbol place)) × IsParent standing task.class symbol place parent
 
 -- a parent of the class along the link of this node
-abbrev pub IsParentBy : List Done → Trees → ℕ → ℕ → ℕ → ℕ → Type 0
+abbrev pub IsParentBy : List Done → Trees Link → ℕ → ℕ → ℕ → ℕ → Type 0
 IsParentBy standing trees class node other parent = (symbol : ℕ) × (place : ℕ) × (other ≡ node) ×
-    (slice_get trees.links node ≡ Some (Above symbol place)) × IsParent standing class symbol place parent
+    (slice_get trees.labels node ≡ Some (Above symbol place)) × IsParent standing class symbol place parent
 
 -- a task of a root whose paths begin with what the class has
-pub record IsFirst (standing : List Done) (trees : Trees) (of_class root : ℕ) (task : Task) : Type 0 where
+pub record IsFirst (standing : List Done) (trees : Trees Link) (of_class root : ℕ) (task : Task) : Type 0 where
   pub node : task.node ≡ root
   pub class : task.class ≡ of_class
   pub begin : Link
-  pub link : slice_get trees.links root ≡ Some begin
+  pub link : slice_get trees.labels root ≡ Some begin
   pub holds : Begins standing begin of_class
 
 -- the task of the root came, if its paths begin with what the class has
-pub record PutsRoot (standing : List Done) (trees : Trees) (class root : ℕ) (old new : List Task) : Type 0 where
+pub record PutsRoot (standing : List Done) (trees : Trees Link) (class root : ℕ) (old new : List Task) : Type 0 where
   pub grew : GrewTo (IsFirst standing trees class root) old new
-  pub has : (begin : Link) → slice_get trees.links root ≡ Some begin → Begins standing begin class →
+  pub has : (begin : Link) → slice_get trees.labels root ≡ Some begin → Begins standing begin class →
       Contains new (record { node = root; class = class })
 
 -- the tasks of exactly the roots whose paths begin with what the class has
-pub record AreFirst (standing : List Done) (trees : Trees) (class : ℕ) (tasks : List Task) : Type 0 where
+pub record AreFirst (standing : List Done) (trees : Trees Link) (class : ℕ) (tasks : List Task) : Type 0 where
   pub sound : (task : Task) → Contains tasks task → (root : ℕ) × IsRoot trees root ×
       IsFirst standing trees class root task
-  pub complete : (root : ℕ) (begin : Link) → IsRoot trees root → slice_get trees.links root ≡ Some begin →
+  pub complete : (root : ℕ) (begin : Link) → IsRoot trees root → slice_get trees.labels root ≡ Some begin →
       Begins standing begin class → Contains tasks (record { node = root; class = class })
 
 -- the task was come to from the class
-pub record Rises (standing : List Done) (trees : Trees) (class : ℕ) (task : Task) : Type 0 where
+pub record Rises (standing : List Done) (trees : Trees Link) (class : ℕ) (task : Task) : Type 0 where
   pub begin : Link
   pub links : List Link
   pub way : Way trees task.node (begin ∷ links)
@@ -108,7 +104,8 @@ pub record Rises (standing : List Done) (trees : Trees) (class : ℕ) (task : Ta
   pub is_term : task.class < length (terms_of standing)
 
 -- the way to an entry's end leads up from the class to the claim's root
-pub record IsLed (standing : List Done) (trees : Trees) (list : EntryList) (class : ℕ) (claim : Claim) : Type 0 where
+pub record IsLed (standing : List Done) (trees : Trees Link) (list : EntryList) (class : ℕ)
+    (claim : Claim) : Type 0 where
   pub number : ℕ
   pub end : ℕ
   pub is : slice_get list.entries number ≡ Some (entry_of claim.trigger claim.start)
@@ -120,7 +117,7 @@ pub record IsLed (standing : List Done) (trees : Trees) (list : EntryList) (clas
   pub climbs : Climbs standing links class claim.root
 
 -- exactly the claims to which the ways lead up from the class
-abbrev pub FindsAll : List Done → Trees → EntryList → ℕ → List Claim → Type 0
+abbrev pub FindsAll : List Done → Trees Link → EntryList → ℕ → List Claim → Type 0
 FindsAll standing trees list class claims = (claim : Claim) →
     (Contains claims claim → IsLed standing trees list class claim) ×
     (IsLed standing trees list class claim → Contains claims claim)

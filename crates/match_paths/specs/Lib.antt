@@ -1,9 +1,5 @@
 pub mod Inverted
-pub mod Trees
-pub mod EntryList
 pub mod Paths
-pub mod Index
-pub mod NodesInside
 pub mod Marks
 pub mod PathsInside
 pub mod Occurrences

@@ -4,16 +4,15 @@ use Rattle.graph_meaning.specs.declared.done.Done.{Done}
 use Rattle.graph_trigger.specs.declared.trigger.Trigger.{Trigger}
 use Rattle.graph_meaning.specs.Justified.{Justified, Through}
 use Rattle.graph_meaning.specs.declared.claim.Claim.{Claim}
-use Rattle.match_paths.specs.declared.entry.Entry.{Entry}
+use Rattle.match_trees.specs.declared.entry.Entry.{Entry}
 use Rattle.match_paths.specs.declared.link.Link.{Link}
-use Rattle.match_paths.specs.Trees.{Trees, Way}
-use Rattle.match_paths.specs.EntryList.{EntryList}
+use Rattle.match_trees.specs.Trees.{Trees, Way}
+use Rattle.match_trees.specs.EntryList.{EntryList, entry_of}
 use Rattle.match_paths.specs.Inverted.{IsInverted}
-use Rattle.match_paths.specs.Climbing.{entry_of}
 
 -- trees, entries with the nodes at which their ways end, and the number of triggers
 pub record Paths : Type 0 where
-  pub trees : Trees
+  pub trees : Trees Link
   pub list : EntryList
   pub triggers : ℕ
 

@@ -2,14 +2,13 @@
 use Rattle.std.specs.Prelude.{◌≡◌, ◌≢◌, ◌⊎◌, ◌≤◌, ℕ, List, [], ◌∷◌, length, slice_get, Some, Contains}
 use Rattle.graph_trigger.specs.declared.trigger.Trigger.{Trigger}
 use Rattle.graph_trigger.specs.declared.pattern_row.PatternRow.TheVariants.{Var, App}
-use Rattle.match_paths.specs.declared.entry.Entry.{Entry}
+use Rattle.match_trees.specs.declared.entry.Entry.{Entry}
 use Rattle.match_paths.specs.declared.link.Link.{Link}
 use Rattle.match_paths.specs.declared.link.Link.TheVariants.{Member, Argument, Above}
 use Rattle.match_paths.specs.declared.occurrence.Occurrence.{Occurrence}
-use Rattle.match_paths.specs.Trees.{Trees, Way}
-use Rattle.match_paths.specs.NodesInside.{Extends}
-use Rattle.match_paths.specs.EntryList.{EntryList, ExtendsList}
-use Rattle.match_paths.specs.Climbing.{entry_of}
+use Rattle.match_trees.specs.Trees.{Trees, Way}
+use Rattle.match_trees.specs.Growth.{Extends}
+use Rattle.match_trees.specs.EntryList.{EntryList, ExtendsList, entry_of}
 
 -- a path from this place begins so
 pub data BeginsFrom (trigger : Trigger) (all : List Occurrence) (occurrence : Occurrence) : Link → Type 0 where
@@ -31,7 +30,7 @@ pub record IsWanted (trigger : Trigger) (all : List Occurrence) (start : ℕ) (b
   pub begins : BeginsFrom trigger all occurrence begin
 
 -- entries of the trigger with the number came last, for exactly these paths
-pub record AddsWays (number : ℕ) (Is : ℕ → Link → List Link → Type 0) (trees trees' : Trees)
+pub record AddsWays (number : ℕ) (Is : ℕ → Link → List Link → Type 0) (trees trees' : Trees Link)
     (list list' : EntryList) : Type 0 where
   pub trees_extend : Extends trees trees'
   pub list_extends : ExtendsList list list'

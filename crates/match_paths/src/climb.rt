@@ -5,14 +5,14 @@ ghost use Rattle.match_paths.specs.Climbing.{AreFirst, ClimbsAll, FindsAll, Find
 ghost use Rattle.match_paths.specs.Inverted.{Begins};
 
 use crate::claims::Claims;
-use crate::entry_table::EntryTable;
 use crate::link::Link;
-use crate::node_table::NodeTable;
 use crate::step::Step;
 use crate::task::Task;
 use crate::task_list::TaskList;
 use graph_meaning::{Claim, ClassGraph};
 use graph_terms::Memory;
+use match_trees::laws::path_law;
+use match_trees::{EntryTable, NodeTable};
 use std::alloc::Global;
 
 /// Whether the class has what a path begins with.
@@ -86,7 +86,7 @@ fn climb_link<G: ClassGraph>(
 /// Climbs along the link of one node to each parent of a class.
 fn climb_next<G: ClassGraph>(
     graph: &G,
-    nodes: &NodeTable,
+    nodes: &NodeTable<Link>,
     entries: &EntryTable,
     class: u32,
     node: u32,
@@ -94,10 +94,10 @@ fn climb_next<G: ClassGraph>(
     claims: &mut Claims,
 ) -> Result<(), Memory>
     requires class { class < length (terms_of (G.standing graph.now)) }
-    requires node { node < length nodes.now.links }
+    requires node { node < length nodes.now.labels }
     ensures { OnOk result (ClimbsAll (G.standing graph.now) entries.now (IsParentBy (G.standing graph.now) nodes.now class node) tasks.old tasks.new claims.old claims.new) }
 {
-    match nodes.link(node) {
+    match *nodes.label(node) {
         Link::Above { symbol, place } => {
             let step = Step {
                 symbol,
@@ -115,14 +115,14 @@ fn climb_next<G: ClassGraph>(
 /// Climbs from one task.
 fn climb_task<G: ClassGraph>(
     graph: &G,
-    nodes: &NodeTable,
+    nodes: &NodeTable<Link>,
     entries: &EntryTable,
     task: Task,
     tasks: &mut TaskList,
     claims: &mut Claims,
 ) -> Result<(), Memory>
     requires class { task.class < length (terms_of (G.standing graph.now)) }
-    requires node { task.node < length nodes.now.links }
+    requires node { task.node < length nodes.now.labels }
     ensures { OnOk result (ClimbsAll (G.standing graph.now) entries.now (IsAboveTask (G.standing graph.now) nodes.now task) tasks.old tasks.new claims.old claims.new) }
 {
     let _nodes = nodes.len();
@@ -135,16 +135,16 @@ fn climb_task<G: ClassGraph>(
 /// The task of a root, if the class has what its paths begin with.
 fn put_root<G: ClassGraph>(
     graph: &G,
-    nodes: &NodeTable,
+    nodes: &NodeTable<Link>,
     class: u32,
     root: u32,
     tasks: &mut TaskList,
 ) -> Result<(), Memory>
     requires class { class < length (terms_of (G.standing graph.now)) }
-    requires root { root < length nodes.now.links }
+    requires root { root < length nodes.now.labels }
     ensures { OnOk result (PutsRoot (G.standing graph.now) nodes.now class root tasks.old tasks.new) }
 {
-    if begins(graph, nodes.link(root), class) {
+    if begins(graph, *nodes.label(root), class) {
         tasks.put(Task { node: root, class })?;
     }
     Ok(())
@@ -154,7 +154,7 @@ fn put_root<G: ClassGraph>(
 fn first_tasks<G: ClassGraph>(
     alloc: Global,
     graph: &G,
-    nodes: &NodeTable,
+    nodes: &NodeTable<Link>,
     class: u32,
 ) -> Result<TaskList, Memory>
     requires { class < length (terms_of (G.standing graph.now)) }
@@ -172,13 +172,14 @@ fn first_tasks<G: ClassGraph>(
 pub fn climb<G: ClassGraph>(
     alloc: Global,
     graph: &G,
-    nodes: &NodeTable,
+    nodes: &NodeTable<Link>,
     entries: &EntryTable,
     class: u32,
 ) -> Result<Claims, Memory>
     requires { class < length (terms_of (G.standing graph.now)) }
     ensures { IfOk result (λ claims. FindsAll (G.standing graph.now) nodes.now entries.now class claims) }
 {
+    path_law::<Link>();
     let _terms = graph.len();
     let _nodes = nodes.len();
     let mut tasks = first_tasks(alloc, graph, nodes, class)?;

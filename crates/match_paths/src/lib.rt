@@ -4,14 +4,8 @@
 mod claim_key;
 pub mod claims;
 mod climb;
-mod entry;
-mod entry_table;
-mod index;
 mod link;
 mod link_list;
-mod mark;
-mod node_table;
-mod number_list;
 mod occurrence;
 mod occurrences;
 pub mod path_index;

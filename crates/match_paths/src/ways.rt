@@ -1,25 +1,24 @@
 //! Ways of the inverted paths of a trigger.
 ghost use Rattle.std.specs.Prelude.{◌≡◌, ◌<◌, ◌↔◌, ◌∷◌, List, length, slice_get, Some, Contains, OnOk, IfSome, IfNone, IsTrue};
 ghost use Rattle.match_paths.specs.declared.link.Link.{Link as SpecLink};
-ghost use Rattle.match_paths.specs.NodesInside.{Extends};
-ghost use Rattle.match_paths.specs.EntryList.{ExtendsList};
+ghost use Rattle.match_trees.specs.Growth.{Extends};
+ghost use Rattle.match_trees.specs.EntryList.{ExtendsList};
 ghost use Rattle.match_paths.specs.Wants.{AddsWays, BeginsForPair, IsThisWay, IsWanted, IsWayOf, IsWayOfPair, IsWayOfVariable};
 
-use crate::entry::Entry;
-use crate::entry_table::EntryTable;
 use crate::link::Link;
 use crate::link_list::LinkList;
-use crate::node_table::NodeTable;
 use crate::occurrence::Occurrence;
 use crate::occurrences::occurrence_at;
 use graph_terms::Memory;
 use graph_trigger::{PatternRow, Trigger};
+use match_trees::laws::{entry_law, growth_law};
+use match_trees::{Entry, EntryTable, NodeTable};
 use std::alloc::Global;
 
 /// Puts an entry last, and its way into the trees.
 fn add_way(
     alloc: Global,
-    nodes: &mut NodeTable,
+    nodes: &mut NodeTable<Link>,
     entries: &mut EntryTable,
     number: u32,
     start: u32,
@@ -30,10 +29,11 @@ fn add_way(
     ensures nodes { Extends nodes.old nodes.new }
     ensures entries { ExtendsList entries.old entries.new }
 {
+    entry_law();
     let _nodes = nodes.len();
     let _entries = entries.len();
     let way = LinkList::with_front(alloc, begin, links)?;
-    let end = nodes.put_way(way.as_slice())?;
+    let end = nodes.put_way(alloc, way.as_slice())?;
     let entry = Entry {
         trigger: number,
         start,
@@ -81,7 +81,7 @@ fn begin_for(occurrence: &Occurrence, other: &Occurrence) -> Option<Link>
 /// Puts the way from one place of a variable for another place, if there is one.
 fn add_pair(
     alloc: Global,
-    nodes: &mut NodeTable,
+    nodes: &mut NodeTable<Link>,
     entries: &mut EntryTable,
     number: u32,
     occurrence: &Occurrence,
@@ -91,6 +91,8 @@ fn add_pair(
     ensures nodes { Extends nodes.old nodes.new }
     ensures entries { ExtendsList entries.old entries.new }
 {
+    growth_law::<Link>();
+    entry_law();
     let _nodes = nodes.len();
     let _entries = entries.len();
     match begin_for(occurrence, other) {
@@ -113,7 +115,7 @@ fn add_pair(
 /// Puts the ways from one place of a variable for all other places.
 fn add_pairs(
     alloc: Global,
-    nodes: &mut NodeTable,
+    nodes: &mut NodeTable<Link>,
     entries: &mut EntryTable,
     number: u32,
     occurrence: &Occurrence,
@@ -123,6 +125,8 @@ fn add_pairs(
     ensures nodes { Extends nodes.old nodes.new }
     ensures entries { ExtendsList entries.old entries.new }
 {
+    growth_law::<Link>();
+    entry_law();
     let _nodes = nodes.len();
     let _entries = entries.len();
     for j in 0..all.len() {
@@ -142,7 +146,7 @@ fn add_pairs(
 /// Puts the ways from one place.
 fn add_place(
     alloc: Global,
-    nodes: &mut NodeTable,
+    nodes: &mut NodeTable<Link>,
     entries: &mut EntryTable,
     number: u32,
     trigger: &Trigger,
@@ -153,6 +157,8 @@ fn add_place(
     ensures nodes { Extends nodes.old nodes.new }
     ensures entries { ExtendsList entries.old entries.new }
 {
+    growth_law::<Link>();
+    entry_law();
     let _nodes = nodes.len();
     let _entries = entries.len();
     if occurrence.row >= trigger.rows.len() {
@@ -185,7 +191,7 @@ fn add_place(
 /// Puts the ways from all places.
 pub fn add_places(
     alloc: Global,
-    nodes: &mut NodeTable,
+    nodes: &mut NodeTable<Link>,
     entries: &mut EntryTable,
     number: u32,
     trigger: &Trigger,
@@ -195,6 +201,8 @@ pub fn add_places(
     ensures nodes { Extends nodes.old nodes.new }
     ensures entries { ExtendsList entries.old entries.new }
 {
+    growth_law::<Link>();
+    entry_law();
     let _nodes = nodes.len();
     let _entries = entries.len();
     for i in 0..all.len() {

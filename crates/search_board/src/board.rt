@@ -6,9 +6,9 @@ ghost use Rattle.search_board.specs.Places.{counts_of};
 use crate::counts::{Counts, counts_more, counts_with};
 use crate::kind::Kind;
 use crate::place::Place;
-use crate::place_list::PlaceList;
 use crate::tests_of::{is_open, is_stuck, is_unit};
 use formula_truth::Truth;
+use search_list::ShortList;
 use search_set::LeastSet;
 use std::alloc::{AllocError, Global};
 use std::marker::Model;
@@ -20,7 +20,7 @@ pub struct Board {
     kinds: Vec<Kind>,
     truths: Vec<Truth>,
     asserted: Vec<bool>,
-    places: Vec<PlaceList>,
+    places: Vec<ShortList<Place>>,
     counts: Vec<Counts>,
     units: LeastSet,
     opens: LeastSet,
@@ -59,7 +59,12 @@ impl Board {
     }
 
     /// Enters a node, which isn't asserted. Without memory, or where there is no room, all is as before.
-    pub fn enter(&mut self, kind: Kind, truth: Truth, places: PlaceList) -> Result<(), AllocError>
+    pub fn enter(
+        &mut self,
+        kind: Kind,
+        truth: Truth,
+        places: ShortList<Place>,
+    ) -> Result<(), AllocError>
         ensures ok { OnOk result (self.new ≡ with_node self.old kind truth places) }
         ensures err { OnErr result (self.new ≡ self.old) }
     {
@@ -239,7 +244,7 @@ impl Board {
 struct Entry {
     kind: Kind,
     truth: Truth,
-    places: PlaceList,
+    places: ShortList<Place>,
     counts: Counts,
 }
 
@@ -248,7 +253,7 @@ fn push_all(
     kinds: &mut Vec<Kind>,
     truths: &mut Vec<Truth>,
     asserted: &mut Vec<bool>,
-    places: &mut Vec<PlaceList>,
+    places: &mut Vec<ShortList<Place>>,
     counts: &mut Vec<Counts>,
     entry: Entry,
 ) -> Result<(), AllocError>
@@ -272,7 +277,7 @@ fn push_all(
 }
 
 /// The counts of some places.
-fn count_places(places: &PlaceList) -> Counts
+fn count_places(places: &ShortList<Place>) -> Counts
     ensures { result ≡ counts_of places.now }
 {
     let mut counts = Counts {

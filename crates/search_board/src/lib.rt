@@ -7,7 +7,6 @@ pub mod change;
 pub mod counts;
 pub mod kind;
 pub mod place;
-pub mod place_list;
 pub mod tests_of;
 pub mod undo;
 
@@ -16,4 +15,3 @@ pub use change::Change;
 pub use counts::Counts;
 pub use kind::Kind;
 pub use place::Place;
-pub use place_list::PlaceList;

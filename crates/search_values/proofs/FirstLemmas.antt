@@ -2,6 +2,7 @@
 use Rattle.std.proofs.Common.{zero, suc, ◌≡◌, ◌<◌, ◌⊎◌, inl, inr, ℕ, Bool, true, false, List, [], ◌∷◌, length, slice_set, slice_index_or, count_by, refl, sym, ◌∙◌, ap, subst, arith}
 use Rattle.std.proofs.Math.ListN.{length-set}
 use Rattle.formula_truth.specs.declared.truth.Truth.{Truth}
+use Rattle.formula_truth.specs.Joins.{AreJoins}
 use Rattle.search_board.specs.declared.place.Place.{Place}
 use Rattle.search_board.specs.Places.{is_left_place, counts_of}
 use Rattle.search_board.specs.Values.{value_of}
@@ -14,33 +15,33 @@ use Rattle.search_values.specs.KeptInside.{IsRight}
 use Rattle.search_values.proofs.ListLemmas.{get-set_same, get-set_other, same_or_not, list_within}
 use Rattle.search_values.proofs.UnitLemmas.{unit_case, unit_by, unit_on, open_case, open_by, open_on, stuck_back, stuck_by, stuck_on, left_by, left_on}
 
-module _ (wires : Wires) (s : Shown) (right : IsRight wires s) where
+module _ (joins : AreJoins) (wires : Wires) (s : Shown) (right : IsRight wires s) where
   pub unit_has_left : (n : ℕ) → unit_at s n ≡ true → 0 < count_by is_left_place (places_at s n)
   unit_has_left n e = omega (arith, (unit_case (kind_at s n) (truth_at s n) (asserted_at s n) (counts_of (places_at s n)) e).1)
 
   pub first_unit_is : (n i : ℕ) → IsFirstPassing (unit_at s) n → i < length (places_at s n) → is_left_place (place_at s n i) ≡ true → IsFirstUnit (given_by wires s) n i
   first_unit_is n i first within left = record {
-    is_unit = unit_by wires s right.wired right.are right.settled n i within left first.passes;
-    first = λ m j lt unit. differ (unit_at s m) (unit_on wires s right.wired right.are right.settled m j unit) (first.first m lt);
+    is_unit = unit_by joins wires s right.wired right.are right.settled n i within left first.passes;
+    first = λ m j lt unit. differ (unit_at s m) (unit_on joins wires s right.wired right.are right.settled m j unit) (first.first m lt);
   }
     where
       differ : (b : Bool) → b ≡ true → b ≡ false → ⊥
       differ b p q = cc
 
   pub no_unit : NonePasses (unit_at s) → (n i : ℕ) → IsUnit (given_by wires s) n i → ⊥
-  no_unit none n i unit = let e = unit_on wires s right.wired right.are right.settled n i unit in let f = none n in cc
+  no_unit none n i unit = let e = unit_on joins wires s right.wired right.are right.settled n i unit in let f = none n in cc
 
   pub no_stuck : NonePasses (stuck_at s) → (n : ℕ) → IsStuck (given_by wires s) n → ⊥
-  no_stuck none n stuck = let e = stuck_on wires s right.wired right.are right.settled n stuck in let f = none n in cc
+  no_stuck none n stuck = let e = stuck_on joins wires s right.wired right.are right.settled n stuck in let f = none n in cc
 
   pub no_open : NonePasses (open_at s) → (n : ℕ) → IsOpen (given_by wires s) n → ⊥
-  no_open none n is = let e = open_on wires s right.wired right.are right.settled n is in let f = none n in cc
+  no_open none n is = let e = open_on joins wires s right.wired right.are right.settled n is in let f = none n in cc
 
   -- an open disjunction that isn't stuck has something left over
   pub open_has_left : ((n : ℕ) → IsStuck (given_by wires s) n → ⊥) → (n : ℕ) → open_at s n ≡ true → 0 < count_by is_left_place (places_at s n)
   open_has_left quiet n e = elim (some_or_none (count_by is_left_place (places_at s n))) [
     | inl none ↦ let o = open_case (kind_at s n) (truth_at s n) (asserted_at s n) e in
-        absurd (quiet n (stuck_by wires s right.wired right.are right.settled n (stuck_back (kind_at s n) (asserted_at s n) (counts_of (places_at s n)) o.is_or o.is_asserted none)))
+        absurd (quiet n (stuck_by joins wires s right.wired right.are right.settled n (stuck_back (kind_at s n) (asserted_at s n) (counts_of (places_at s n)) o.is_or o.is_asserted none)))
     | inr some ↦ some
   ]
     where
@@ -49,10 +50,10 @@ module _ (wires : Wires) (s : Shown) (right : IsRight wires s) where
 
   pub split_is : (n i : ℕ) → IsFirstPassing (open_at s) n → i < length (places_at s n) → is_left_place (place_at s n i) ≡ true → ((j : ℕ) → j < i → is_left_place (place_at s n j) ≡ false) → IsSplit (given_by wires s) n i
   split_is n i first within left before = record {
-    is_open = open_by wires s right.wired right.are right.settled n first.passes;
-    first = λ m lt is. differ (open_at s m) (open_on wires s right.wired right.are right.settled m is) (first.first m lt);
-    left = left_by wires s right.wired right.are right.settled n i within left;
-    first_left = λ j lt is. differ (is_left_place (place_at s n j)) (left_on wires s right.wired right.are right.settled n j is) (before j lt);
+    is_open = open_by joins wires s right.wired right.are right.settled n first.passes;
+    first = λ m lt is. differ (open_at s m) (open_on joins wires s right.wired right.are right.settled m is) (first.first m lt);
+    left = left_by joins wires s right.wired right.are right.settled n i within left;
+    first_left = λ j lt is. differ (is_left_place (place_at s n j)) (left_on joins wires s right.wired right.are right.settled n j is) (before j lt);
   }
     where
       differ : (b : Bool) → b ≡ true → b ≡ false → ⊥

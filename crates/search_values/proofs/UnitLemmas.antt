@@ -3,6 +3,7 @@ use Rattle.std.proofs.Common.{zero, suc, ◌≡◌, ◌<◌, inl, inr, ℕ, Bool
 use Rattle.std.proofs.lemmas.Bool.{eqb-true}
 use Rattle.formula_truth.specs.declared.truth.Truth.{Truth}
 use Rattle.formula_truth.specs.declared.truth.Truth.TheVariants.{Yes, No, Unset}
+use Rattle.formula_truth.specs.Joins.{AreJoins}
 use Rattle.search_board.specs.declared.kind.Kind.{Kind}
 use Rattle.search_board.specs.declared.kind.Kind.TheVariants.{Leaf, And, Or}
 use Rattle.search_board.specs.declared.place.Place.{Place}
@@ -15,7 +16,7 @@ use Rattle.search_values.specs.Settled.{AreWires, IsSettled}
 use Rattle.search_values.specs.Given.{HasYes, IsLeftOver, HasNoYesPart, IsUnit, IsOpen, IsStuck}
 use Rattle.search_values.specs.GivenBy.{given_by}
 use Rattle.search_values.proofs.PassLemmas.{and_true, true_or_false, none_pass, count_none, some_pass, one_passes, count_one}
-use Rattle.search_values.proofs.ValueLemmas.{place_of, told_is, taken_is, some_is, yes_on, no_on, yes_by, no_by, some_yes_some}
+use Rattle.search_values.proofs.ValueLemmas.{place_of, told_is, taken_is, some_is, yes_on, no_on, yes_by, no_by, some_any}
 
 -- ---- the tests, opened
 
@@ -77,23 +78,23 @@ no_value_not t e f = let g = ap is_no_value f in cc
 
 -- ---- what is left over
 
-module _ (wires : Wires) (s : Shown) (wired : IsWired wires) (are : AreWires wires s) (settled : IsSettled wires s) where
+module _ (joins : AreJoins) (wires : Wires) (s : Shown) (wired : IsWired wires) (are : AreWires wires s) (settled : IsSettled wires s) where
   pub left_by : (n i : ℕ) → i < length (places_at s n) → is_left_place (place_at s n i) ≡ true → IsLeftOver (given_by wires s) n i
   left_by n i h e =
       let place : i < length (parts_at wires n) = omega (arith, are.places n) in
-      let at = place_of wires s wired are settled n i place in
+      let at = place_of joins wires s wired are settled n i place in
       let both = and_true (not (is_no_value (place_at s n i).told)) (not (place_at s n i).struck) e in
       record {
         place = place;
-        not_no = λ has. no_value_not (place_at s n i).told (not_true _ both.0) (told_is wires s wired are settled n i place ∙ no_on wires s wired are settled (omega (arith, wired.earlier n i at, at.node)) has);
+        not_no = λ has. no_value_not (place_at s n i).told (not_true _ both.0) (told_is joins wires s wired are settled n i place ∙ no_on joins wires s wired are settled (omega (arith, wired.earlier n i at, at.node)) has);
         not_struck = not_true _ both.1;
       }
 
   pub left_on : (n i : ℕ) → IsLeftOver (given_by wires s) n i → is_left_place (place_at s n i) ≡ true
   left_on n i left =
-      let at = place_of wires s wired are settled n i left.place in
+      let at = place_of joins wires s wired are settled n i left.place in
       let part = part_at wires n i in
-      let not_no = not_no_value (place_at s n i).told (λ e. left.not_no (no_by wires s wired are settled (suc part) part (omega arith) (omega (arith, wired.earlier n i at, at.node)) (sym (told_is wires s wired are settled n i left.place) ∙ e))) in
+      let not_no = not_no_value (place_at s n i).told (λ e. left.not_no (no_by joins wires s wired are settled (suc part) part (omega arith) (omega (arith, wired.earlier n i at, at.node)) (sym (told_is joins wires s wired are settled n i left.place) ∙ e))) in
       rw (not_no, left.not_struck) refl
 
   fresh_left : (place : Place) → is_fresh_place place ≡ true → (is_left_place place ≡ true) × (place.taken ≡ false)
@@ -102,15 +103,15 @@ module _ (wires : Wires) (s : Shown) (wired : IsWired wires) (are : AreWires wir
   -- ---- open disjunctions
 
   pub no_yes_by : (n : ℕ) → n < length wires.parts → kind_at s n ≡ Or → is_yes_value (truth_at s n) ≡ false → HasNoYesPart (given_by wires s) n
-  no_yes_by n h is_or not_yes i place has = yes_value_not (truth_at s n) not_yes (yes_on wires s wired are settled h (HasYes.some {i = i} is_or place has))
+  no_yes_by n h is_or not_yes i place has = yes_value_not (truth_at s n) not_yes (yes_on joins wires s wired are settled h (HasYes.some {i = i} is_or place has))
 
   pub no_yes_on : (n : ℕ) → n < length wires.parts → kind_at s n ≡ Or → HasNoYesPart (given_by wires s) n → is_yes_value (truth_at s n) ≡ false
   no_yes_on n h is_or none = not_yes_value (truth_at s n) (λ e.
-      let found = some_yes_some (places_at s n) (sym (some_is wires s wired are settled n h is_or) ∙ e) in
+      let found = some_any joins.disjunction (places_at s n) (sym (some_is joins wires s wired are settled n h is_or) ∙ e) in
       let place : found.0 < length (parts_at wires n) = omega (arith, are.places n, found.1) in
-      let at = place_of wires s wired are settled n found.0 place in
+      let at = place_of joins wires s wired are settled n found.0 place in
       let part = part_at wires n found.0 in
-      none found.0 place (yes_by wires s wired are settled (suc part) part (omega arith) (omega (arith, wired.earlier n found.0 at, at.node)) (sym (told_is wires s wired are settled n found.0 place) ∙ found.2)))
+      none found.0 place (yes_by joins wires s wired are settled (suc part) part (omega arith) (omega (arith, wired.earlier n found.0 at, at.node)) (sym (told_is joins wires s wired are settled n found.0 place) ∙ found.2)))
 
   -- a disjunction stands
   pub or_stands : (n : ℕ) → kind_at s n ≡ Or → n < length wires.parts
@@ -143,14 +144,14 @@ module _ (wires : Wires) (s : Shown) (wired : IsWired wires) (are : AreWires wir
         no_yes = no_yes_by n (or_stands n o.is_or) o.is_or o.not_yes;
         left = left_by n i h left;
         only = λ j other. one_passes is_left_place blank (places_at s n) u.1 j i (omega (arith, are.places n, other.place)) h (left_on n j other) left;
-        not_asserted = sym (taken_is wires s wired are settled n i (omega (arith, are.places n))) ∙ taken;
+        not_asserted = sym (taken_is joins wires s wired are settled n i (omega (arith, are.places n))) ∙ taken;
       }
 
   pub unit_on : (n i : ℕ) → IsUnit (given_by wires s) n i → unit_at s n ≡ true
   unit_on n i u =
       let h : i < length (places_at s n) = omega (arith, are.places n, u.left.place) in
       let left = left_on n i u.left in
-      let not_taken = taken_is wires s wired are settled n i u.left.place ∙ u.not_asserted in
+      let not_taken = taken_is joins wires s wired are settled n i u.left.place ∙ u.not_asserted in
       let fresh : is_fresh_place (place_at s n i) ≡ true = rw (left, not_taken) refl in
       unit_back (kind_at s n) (truth_at s n) (asserted_at s n) (counts_of (places_at s n)) u.is_or.is_or u.is_or.asserted (no_yes_on n (or_stands n u.is_or.is_or) u.is_or.is_or u.no_yes)
       (count_one is_left_place blank (places_at s n) i h left (λ j hj e. u.only j (left_by n j hj e)))

@@ -1,11 +1,13 @@
 -- A settled board has the values that are defined.
-use Rattle.std.proofs.Common.{zero, suc, ◌≡◌, ◌<◌, ◌⊎◌, inl, inr, ℕ, List, [], ◌∷◌, length, slice_index_or, refl, sym, ◌∙◌, ap, arith}
+use Rattle.std.proofs.Common.{zero, suc, ◌≡◌, ◌<◌, inl, inr, ℕ, List, [], ◌∷◌, length, slice_index_or, Contains, refl, sym, subst, ◌∙◌, ap, arith}
+use Rattle.std.proofs.lemmas.List.Elements.{Contains-append_cases, Contains-append_left, Contains-append_right, Contains-push, Contains-push_cases}
 use Rattle.formula_truth.specs.declared.truth.Truth.{Truth}
 use Rattle.formula_truth.specs.declared.truth.Truth.TheVariants.{Yes, No, Unset}
 use Rattle.search_board.specs.declared.kind.Kind.{Kind}
 use Rattle.search_board.specs.declared.kind.Kind.TheVariants.{Leaf, And, Or}
 use Rattle.search_board.specs.declared.place.Place.{Place}
-use Rattle.formula_truth.specs.Truths.{and_of, or_of, all_of, some_of}
+use Rattle.formula_truth.specs.Truths.{all_of, some_of}
+use Rattle.formula_truth.specs.Joins.{IsJoin, AreJoins}
 use Rattle.search_board.specs.Values.{value_of}
 use Rattle.search_board.specs.Board.{Shown, blank, kind_at, truth_at, asserted_at, places_at, place_at}
 use Rattle.search_values.specs.Wiring.{Wires, IsPlace, IsWired, parts_at, part_at}
@@ -14,105 +16,38 @@ use Rattle.search_values.specs.Given.{HasYes, HasNo, HasValue}
 use Rattle.search_values.proofs.ListLemmas.{list_within}
 use Rattle.search_values.specs.GivenBy.{given_by, leaf_only}
 
--- ---- what a conjunction and a disjunction of places tell
+-- ---- what places tell
 
-all_yes_each : (places : List Place) → all_of (told_by places) ≡ Yes → (i : ℕ) → i < length places → (slice_index_or places i blank).told ≡ Yes
-all_yes_each [] e i h = absurd (omega arith)
-all_yes_each (p ∷ ps) e zero h = (both p.told (all_of (told_by ps)) e).0
-  where
-    both : (a b : Truth) → and_of a b ≡ Yes → (a ≡ Yes) × (b ≡ Yes)
-    both Yes b e = (refl, e)
-    both No b e = cc
-    both Unset Yes e = cc
-    both Unset No e = cc
-    both Unset Unset e = cc
-all_yes_each (p ∷ ps) e (suc i) h = all_yes_each ps ((both p.told (all_of (told_by ps)) e).1) i (omega arith)
-  where
-    both : (a b : Truth) → and_of a b ≡ Yes → (a ≡ Yes) × (b ≡ Yes)
-    both Yes b e = (refl, e)
-    both No b e = cc
-    both Unset Yes e = cc
-    both Unset No e = cc
-    both Unset Unset e = cc
+-- what a place tells is told
+told_here : (places : List Place) (i : ℕ) → i < length places → Contains (told_by places) (slice_index_or places i blank).told
+told_here [] i h = absurd (omega arith)
+told_here (p ∷ ps) zero h = Contains-append_left (p.told ∷ []) (told_by ps) p.told (Contains-push [] p.told)
+told_here (p ∷ ps) (suc i) h = Contains-append_right (p.told ∷ []) (told_by ps) (slice_index_or ps i blank).told (told_here ps i (omega arith))
 
-all_no_some : (places : List Place) → all_of (told_by places) ≡ No → (i : ℕ) × (i < length places) × ((slice_index_or places i blank).told ≡ No)
-all_no_some [] e = cc
-all_no_some (p ∷ ps) e = elim (one p.told (all_of (told_by ps)) e) [
-  | inl here ↦ (0, omega arith, here)
-  | inr later ↦ let found = all_no_some ps later in (suc found.0, omega (arith, found.1), found.2)
+-- what is told is told by a place
+told_where : (places : List Place) (t : Truth) → Contains (told_by places) t → (i : ℕ) × (i < length places) × ((slice_index_or places i blank).told ≡ t)
+told_where [] t c = absurd (omega (arith, c.1))
+told_where (p ∷ ps) t c = elim (Contains-append_cases (p.told ∷ []) (told_by ps) t c) [
+  | inl first ↦ elim (Contains-push_cases [] p.told t first) [ inl none ↦ absurd (omega (arith, none.1)) | inr is ↦ (0, omega arith, is) ]
+  | inr later ↦ let found = told_where ps t later in (suc found.0, omega (arith, found.1), found.2)
 ]
-  where
-    one : (a b : Truth) → and_of a b ≡ No → (a ≡ No) ⊎ (b ≡ No)
-    one Yes b e = inr e
-    one No b e = inl refl
-    one Unset Yes e = cc
-    one Unset No e = inr refl
-    one Unset Unset e = cc
 
-each_yes_all : (places : List Place) → ((i : ℕ) → i < length places → (slice_index_or places i blank).told ≡ Yes) → all_of (told_by places) ≡ Yes
-each_yes_all [] each = refl
-each_yes_all (p ∷ ps) each = rw (each 0 (omega arith)) (each_yes_all ps (λ i h. each (suc i) (omega arith)))
+module _ {of : List Truth → Truth} {each any : Truth} (join : IsJoin of each any) (places : List Place) where
+  all_each : of (told_by places) ≡ each → (i : ℕ) → i < length places → (slice_index_or places i blank).told ≡ each
+  all_each e i h = (join.all (told_by places)).0 e (slice_index_or places i blank).told (told_here places i h)
 
-some_no_all : (places : List Place) (i : ℕ) → i < length places → (slice_index_or places i blank).told ≡ No → all_of (told_by places) ≡ No
-some_no_all [] i h e = absurd (omega arith)
-some_no_all (p ∷ ps) zero h e = ap (λ t. and_of t (all_of (told_by ps))) e
-some_no_all (p ∷ ps) (suc i) h e = ap (and_of p.told) (some_no_all ps i (omega arith) e) ∙ last p.told
-  where
-    last : (a : Truth) → and_of a No ≡ No
-    last Yes = refl
-    last No = refl
-    last Unset = refl
+  each_all : ((i : ℕ) → i < length places → (slice_index_or places i blank).told ≡ each) → of (told_by places) ≡ each
+  each_all told = (join.all (told_by places)).1 (λ t c. let found = told_where places t c in sym found.2 ∙ told found.0 found.1)
 
-some_no_each : (places : List Place) → some_of (told_by places) ≡ No → (i : ℕ) → i < length places → (slice_index_or places i blank).told ≡ No
-some_no_each [] e i h = absurd (omega arith)
-some_no_each (p ∷ ps) e zero h = (both p.told (some_of (told_by ps)) e).0
-  where
-    both : (a b : Truth) → or_of a b ≡ No → (a ≡ No) × (b ≡ No)
-    both No b e = (refl, e)
-    both Yes b e = cc
-    both Unset Yes e = cc
-    both Unset No e = cc
-    both Unset Unset e = cc
-some_no_each (p ∷ ps) e (suc i) h = some_no_each ps ((both p.told (some_of (told_by ps)) e).1) i (omega arith)
-  where
-    both : (a b : Truth) → or_of a b ≡ No → (a ≡ No) × (b ≡ No)
-    both No b e = (refl, e)
-    both Yes b e = cc
-    both Unset Yes e = cc
-    both Unset No e = cc
-    both Unset Unset e = cc
+  pub some_any : of (told_by places) ≡ any → (i : ℕ) × (i < length places) × ((slice_index_or places i blank).told ≡ any)
+  some_any e = told_where places any ((join.some (told_by places)).0 e)
 
-pub some_yes_some : (places : List Place) → some_of (told_by places) ≡ Yes → (i : ℕ) × (i < length places) × ((slice_index_or places i blank).told ≡ Yes)
-some_yes_some [] e = cc
-some_yes_some (p ∷ ps) e = elim (one p.told (some_of (told_by ps)) e) [
-  | inl here ↦ (0, omega arith, here)
-  | inr later ↦ let found = some_yes_some ps later in (suc found.0, omega (arith, found.1), found.2)
-]
-  where
-    one : (a b : Truth) → or_of a b ≡ Yes → (a ≡ Yes) ⊎ (b ≡ Yes)
-    one No b e = inr e
-    one Yes b e = inl refl
-    one Unset Yes e = inr refl
-    one Unset No e = cc
-    one Unset Unset e = cc
-
-each_no_some : (places : List Place) → ((i : ℕ) → i < length places → (slice_index_or places i blank).told ≡ No) → some_of (told_by places) ≡ No
-each_no_some [] each = refl
-each_no_some (p ∷ ps) each = rw (each 0 (omega arith)) (each_no_some ps (λ i h. each (suc i) (omega arith)))
-
-some_yes_all : (places : List Place) (i : ℕ) → i < length places → (slice_index_or places i blank).told ≡ Yes → some_of (told_by places) ≡ Yes
-some_yes_all [] i h e = absurd (omega arith)
-some_yes_all (p ∷ ps) zero h e = ap (λ t. or_of t (some_of (told_by ps))) e
-some_yes_all (p ∷ ps) (suc i) h e = ap (or_of p.told) (some_yes_all ps i (omega arith) e) ∙ last p.told
-  where
-    last : (a : Truth) → or_of a Yes ≡ Yes
-    last Yes = refl
-    last No = refl
-    last Unset = refl
+  any_some : (i : ℕ) → i < length places → (slice_index_or places i blank).told ≡ any → of (told_by places) ≡ any
+  any_some i h e = (join.some (told_by places)).1 (subst (Contains (told_by places)) e (told_here places i h))
 
 -- ---- the values
 
-module _ (wires : Wires) (s : Shown) (wired : IsWired wires) (are : AreWires wires s) (settled : IsSettled wires s) where
+module _ (joins : AreJoins) (wires : Wires) (s : Shown) (wired : IsWired wires) (are : AreWires wires s) (settled : IsSettled wires s) where
   -- the node with a place stands
   pub place_of : (n i : ℕ) → i < length (parts_at wires n) → IsPlace wires n i
   place_of n i h = record { node = list_within wires.parts n i h; place = h }
@@ -136,18 +71,18 @@ module _ (wires : Wires) (s : Shown) (wired : IsWired wires) (are : AreWires wir
   pub yes_on : {n : ℕ} → n < length wires.parts → HasYes (given_by wires s) n → truth_at s n ≡ Yes
   yes_on {n = n} h (HasYes.leaf is_leaf e) = sym (ap (λ (k : Kind). leaf_only k (truth_at s n)) is_leaf) ∙ e
   yes_on {n = n} h (HasYes.every is_and each) =
-      all_is n h is_and ∙ each_yes_all (places_at s n) (λ i at. let place : i < length (parts_at wires n) = omega (arith, are.places n) in
+      all_is n h is_and ∙ each_all joins.conjunction (places_at s n) (λ i at. let place : i < length (parts_at wires n) = omega (arith, are.places n) in
       told_is n i place ∙ yes_on (omega (arith, wired.earlier n i (place_of n i place))) (each i place))
   yes_on {n = n} h (HasYes.some {i = i} is_or place has) =
-      some_is n h is_or ∙ some_yes_all (places_at s n) i (omega (arith, are.places n)) (told_is n i place ∙ yes_on (omega (arith, wired.earlier n i (place_of n i place))) has)
+      some_is n h is_or ∙ any_some joins.disjunction (places_at s n) i (omega (arith, are.places n)) (told_is n i place ∙ yes_on (omega (arith, wired.earlier n i (place_of n i place))) has)
 
   pub no_on : {n : ℕ} → n < length wires.parts → HasNo (given_by wires s) n → truth_at s n ≡ No
   no_on {n = n} h (HasNo.leaf is_leaf e) = sym (ap (λ (k : Kind). leaf_only k (truth_at s n)) is_leaf) ∙ e
   no_on {n = n} h (HasNo.every is_or each) =
-      some_is n h is_or ∙ each_no_some (places_at s n) (λ i at. let place : i < length (parts_at wires n) = omega (arith, are.places n) in
+      some_is n h is_or ∙ each_all joins.disjunction (places_at s n) (λ i at. let place : i < length (parts_at wires n) = omega (arith, are.places n) in
       told_is n i place ∙ no_on (omega (arith, wired.earlier n i (place_of n i place))) (each i place))
   no_on {n = n} h (HasNo.some {i = i} is_and place has) =
-      all_is n h is_and ∙ some_no_all (places_at s n) i (omega (arith, are.places n)) (told_is n i place ∙ no_on (omega (arith, wired.earlier n i (place_of n i place))) has)
+      all_is n h is_and ∙ any_some joins.conjunction (places_at s n) i (omega (arith, are.places n)) (told_is n i place ∙ no_on (omega (arith, wired.earlier n i (place_of n i place))) has)
 
   -- what has a value on the board has it by definition
   pub yes_by : (fuel n : ℕ) → n < fuel → n < length wires.parts → truth_at s n ≡ Yes → HasYes (given_by wires s) n
@@ -157,8 +92,8 @@ module _ (wires : Wires) (s : Shown) (wired : IsWired wires) (are : AreWires wir
       go : ((m : ℕ) → m < fuel → m < length wires.parts → truth_at s m ≡ Yes → HasYes (given_by wires s) m) → (k : Kind) → kind_at s n ≡ k → HasYes (given_by wires s) n
       go again Leaf is = HasYes.leaf is (ap (λ (k : Kind). leaf_only k (truth_at s n)) is ∙ e)
       go again And is = HasYes.every is (λ i place. again (part_at wires n i) (omega (arith, wired.earlier n i (place_of n i place))) (omega (arith, wired.earlier n i (place_of n i place)))
-          (sym (told_is n i place) ∙ all_yes_each (places_at s n) (sym (all_is n h is) ∙ e) i (omega (arith, are.places n))))
-      go again Or is = let found = some_yes_some (places_at s n) (sym (some_is n h is) ∙ e) in
+          (sym (told_is n i place) ∙ all_each joins.conjunction (places_at s n) (sym (all_is n h is) ∙ e) i (omega (arith, are.places n))))
+      go again Or is = let found = some_any joins.disjunction (places_at s n) (sym (some_is n h is) ∙ e) in
           let place : found.0 < length (parts_at wires n) = omega (arith, are.places n, found.1) in
           HasYes.some {i = found.0} is place (again (part_at wires n found.0) (omega (arith, wired.earlier n found.0 (place_of n found.0 place))) (omega (arith, wired.earlier n found.0 (place_of n found.0 place)))
           (sym (told_is n found.0 place) ∙ found.2))
@@ -170,8 +105,8 @@ module _ (wires : Wires) (s : Shown) (wired : IsWired wires) (are : AreWires wir
       go : ((m : ℕ) → m < fuel → m < length wires.parts → truth_at s m ≡ No → HasNo (given_by wires s) m) → (k : Kind) → kind_at s n ≡ k → HasNo (given_by wires s) n
       go again Leaf is = HasNo.leaf is (ap (λ (k : Kind). leaf_only k (truth_at s n)) is ∙ e)
       go again Or is = HasNo.every is (λ i place. again (part_at wires n i) (omega (arith, wired.earlier n i (place_of n i place))) (omega (arith, wired.earlier n i (place_of n i place)))
-          (sym (told_is n i place) ∙ some_no_each (places_at s n) (sym (some_is n h is) ∙ e) i (omega (arith, are.places n))))
-      go again And is = let found = all_no_some (places_at s n) (sym (all_is n h is) ∙ e) in
+          (sym (told_is n i place) ∙ all_each joins.disjunction (places_at s n) (sym (some_is n h is) ∙ e) i (omega (arith, are.places n))))
+      go again And is = let found = some_any joins.conjunction (places_at s n) (sym (all_is n h is) ∙ e) in
           let place : found.0 < length (parts_at wires n) = omega (arith, are.places n, found.1) in
           HasNo.some {i = found.0} is place (again (part_at wires n found.0) (omega (arith, wired.earlier n found.0 (place_of n found.0 place))) (omega (arith, wired.earlier n found.0 (place_of n found.0 place)))
           (sym (told_is n found.0 place) ∙ found.2))

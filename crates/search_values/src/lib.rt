@@ -8,16 +8,12 @@ pub mod changing;
 pub mod left;
 pub mod node_values;
 pub mod noted;
-pub mod number_list;
 pub mod telling;
 pub mod up;
-pub mod up_list;
 pub mod value;
 pub mod wiring;
 
 pub use node_values::NodeValues;
 pub use noted::Noted;
-pub use number_list::NumberList;
 pub use up::Up;
-pub use up_list::UpList;
 pub use wiring::Wiring;

@@ -9,13 +9,14 @@ ghost use Rattle.search_values.specs.Entered.{ArePlaces, NoneStruck};
 
 use crate::left::first_left;
 use crate::noted::Noted;
-use crate::number_list::NumberList;
 use crate::up::Up;
 use crate::value::value_at;
 use crate::wiring::Wiring;
 use formula_truth::Truth;
+use formula_truth::laws::joining_law;
 use graph_trail::Trail;
-use search_board::{Board, Kind, Place, PlaceList};
+use search_board::{Board, Kind, Place};
+use search_list::ShortList;
 use std::alloc::{AllocError, Global};
 use std::marker::Model;
 
@@ -43,12 +44,16 @@ impl Model for NodeValues {
 }
 
 /// Places that tell what these parts are.
-fn told_places(alloc: Global, board: &Board, parts: &NumberList) -> Result<PlaceList, AllocError>
+fn told_places(
+    alloc: Global,
+    board: &Board,
+    parts: &ShortList<u32>,
+) -> Result<ShortList<Place>, AllocError>
     requires { All (λ part. part < length board.now.kinds) parts.now }
     ensures told { IfOk result (λ places. ArePlaces board.now parts.now places) }
     ensures none_struck { IfOk result (λ places. NoneStruck places) }
 {
-    let mut places = PlaceList::new(alloc);
+    let mut places = ShortList::new(alloc);
     for i in 0..parts.len() {
         let part = parts.get(i);
         places.push(Place {
@@ -80,7 +85,7 @@ impl NodeValues {
 
     /// With one node more, over earlier parts, which is not asserted; no level may be open. A refusal is want of memory
     /// or of room, and all is lost then.
-    pub fn with_node(self, kind: Kind, parts: NumberList) -> Result<NodeValues, AllocError>
+    pub fn with_node(self, kind: Kind, parts: ShortList<u32>) -> Result<NodeValues, AllocError>
         requires base { self.saved ≡ [] }
         requires earlier { All (λ part. part < length self.shown.kinds) parts }
         requires few { length self.shown.kinds + 1 < 2 ^ 32 }
@@ -142,6 +147,7 @@ impl NodeValues {
         requires { n < length self.now.shown.kinds }
         ensures { HasValue (given_of self.now) n result }
     {
+        joining_law();
         self.noted.board.truth(n)
     }
 
@@ -151,6 +157,7 @@ impl NodeValues {
         ensures some { IfSome result (λ at. IsFirstUnit (given_of self.now) at.node at.place) }
         ensures none { IfNone result ((n i : ℕ) → IsUnit (given_of self.now) n i → ⊥) }
     {
+        joining_law();
         match self.noted.board.first_unit() {
             Some(node) => {
                 let place = first_left(&self.noted.board, node);
@@ -165,6 +172,7 @@ impl NodeValues {
         ensures some { IfSome result (λ n. IsStuck (given_of self.now) n) }
         ensures none { IfNone result ((n : ℕ) → IsStuck (given_of self.now) n → ⊥) }
     {
+        joining_law();
         match self.noted.board.first_stuck() {
             Some(node) => Some(node),
             None => None,
@@ -178,6 +186,7 @@ impl NodeValues {
         ensures some { IfSome result (λ at. IsSplit (given_of self.now) at.node at.place) }
         ensures none { IfNone result ((n : ℕ) → IsOpen (given_of self.now) n → ⊥) }
     {
+        joining_law();
         match self.noted.board.first_open() {
             Some(node) => {
                 let place = first_left(&self.noted.board, node);

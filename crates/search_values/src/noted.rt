@@ -5,7 +5,8 @@ ghost use Rattle.search_values.specs.History.{now, notes, board_at, KeepsHistory
 
 use formula_truth::Truth;
 use graph_trail::Trail;
-use search_board::{Board, Change, Kind, Place, PlaceList};
+use search_board::{Board, Change, Kind, Place};
+use search_list::ShortList;
 use std::alloc::AllocError;
 
 /// A board with the trail of its changes.
@@ -39,7 +40,12 @@ impl Noted {
     }
 
     /// Enters a node, which isn't asserted. Without memory, or where there is no room, all is as before.
-    pub fn enter(&mut self, kind: Kind, truth: Truth, places: PlaceList) -> Result<(), AllocError>
+    pub fn enter(
+        &mut self,
+        kind: Kind,
+        truth: Truth,
+        places: ShortList<Place>,
+    ) -> Result<(), AllocError>
         ensures ok { OnOk result (now self.new ≡ with_node (now self.old) kind truth places) }
         ensures err { OnErr result (now self.new ≡ now self.old) }
         ensures history { KeepsHistory self.old self.new }

@@ -3,17 +3,16 @@ ghost use Rattle.std.specs.Prelude.{◌≡◌, ◌<◌, ◌+◌, ◌^◌, ◌++�
 ghost use Rattle.search_values.specs.Wiring.{parts_at, part_at, ups_at, up_at, IsWired};
 ghost use Rattle.search_values.specs.WiresUps.{WiresUps};
 
-use crate::number_list::NumberList;
 use crate::up::Up;
-use crate::up_list::UpList;
+use search_list::ShortList;
 use std::alloc::{AllocError, Global};
 use std::marker::Model;
 
 /// Which parts each node has, and of which nodes each is a part.
 #[derive(Drop)]
 pub struct Wiring {
-    parts: Vec<NumberList>,
-    ups: Vec<UpList>,
+    parts: Vec<ShortList<u32>>,
+    ups: Vec<ShortList<Up>>,
 }
 
 impl Model for Wiring {
@@ -27,7 +26,7 @@ impl Model for Wiring {
 }
 
 /// Puts the places of a node, which comes last, behind the ups of its parts. Without memory a part may be put.
-fn wire(ups: &mut Vec<UpList>, parts: &NumberList, n: u32) -> Result<(), AllocError>
+fn wire(ups: &mut Vec<ShortList<Up>>, parts: &ShortList<u32>, n: u32) -> Result<(), AllocError>
     requires stands { All (λ part. part < length ups.old.items) parts.now }
     ensures { OnOk result (WiresUps ups.old.items ups.new.items parts.now n (length parts.now)) }
 {
@@ -51,7 +50,7 @@ impl Wiring {
     }
 
     /// With one node more, over earlier parts. A refusal is want of memory, and all is lost then.
-    pub fn with_node(self, alloc: Global, parts: NumberList) -> Result<Wiring, AllocError>
+    pub fn with_node(self, alloc: Global, parts: ShortList<u32>) -> Result<Wiring, AllocError>
         requires earlier { All (λ part. part < length self.parts) parts }
         requires few { length self.parts + 1 < 2 ^ 32 }
         ensures { IfOk result (λ wiring. wiring.parts ≡ self.parts ++ parts ∷ []) }
@@ -61,7 +60,7 @@ impl Wiring {
             mut ups,
         } = self;
         let n = lists.len() as u32;
-        ups.push(UpList::new(alloc))?;
+        ups.push(ShortList::new(alloc))?;
         wire(&mut ups, &parts, n)?;
         lists.push(parts)?;
         Ok(Wiring { parts: lists, ups })

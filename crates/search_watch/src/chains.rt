@@ -2,9 +2,9 @@
 ghost use Rattle.std.specs.Prelude.{◌≡◌, ℕ, ◌<◌, ◌≤◌, ◌↔◌, length, slice_index, slice_set, take, ◌⊎◌, [], ◌∷◌, ◌++◌, IsTrue, OnOk, OnErr, IfOk};
 ghost use Rattle.search_watch.specs.Chains.{Chained, chain_at, slot_at, list_at, appended, chained, no_chains, with_term, with_list, with_slot, grown, HasChain};
 
-use crate::chain::Chain;
 use crate::link::Link;
 use graph_trail::Undoable;
+use search_list::ShortList;
 use std::alloc::{AllocError, Global};
 use std::marker::Model;
 
@@ -13,7 +13,7 @@ use std::marker::Model;
 #[derive(Drop)]
 pub struct Chains {
     slots: Vec<u32>,
-    lists: Vec<Chain>,
+    lists: Vec<ShortList<u32>>,
 }
 
 impl Model for Chains {
@@ -62,9 +62,9 @@ impl Undoable for Chains {
 /// Puts a term's slot and list last. Without memory the slot may be put.
 fn push_both(
     slots: &mut Vec<u32>,
-    lists: &mut Vec<Chain>,
+    lists: &mut Vec<ShortList<u32>>,
     slot: u32,
-    list: Chain,
+    list: ShortList<u32>,
 ) -> Result<(), AllocError>
     ensures slots { OnOk result (slots.new.items ≡ slots.old.items ++ slot ∷ []) }
     ensures lists { OnOk result (lists.new.items ≡ lists.old.items ++ list ∷ []) }
@@ -97,7 +97,7 @@ impl Chains {
         if len >= u32::MAX as usize {
             return Err(AllocError);
         }
-        let list = Chain::new(alloc);
+        let list = ShortList::new(alloc);
         match push_both(&mut self.slots, &mut self.lists, len as u32, list) {
             Ok(()) => Ok(()),
             Err(fault) => {

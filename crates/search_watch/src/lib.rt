@@ -5,14 +5,12 @@
 //! the laws in [`laws`] say that what was found is enough.
 #![tactic(auto)]
 
-pub mod chain;
 pub mod chains;
 pub mod evaluate;
 pub mod laws;
 pub mod link;
 pub mod watch;
 
-pub use chain::Chain;
 pub use chains::Chains;
 pub use evaluate::{atom_value, equation_value};
 pub use link::Link;

@@ -9,7 +9,7 @@ pub loop-n-preserved : goal.loop-n-preserved
 loop-n-preserved g c =
     let standing = g.G.ClassGraph.standing c.args.graph.now in
     let facts = c.args.facts.now in
-    next_first_values standing facts c.args.table.now.nodes c.loop-n.n c.loop-n.values.items
+    next_first_values c.joining_law.ensures standing facts c.args.table.now.nodes c.loop-n.n c.loop-n.values.items
     c.push_value.new.values.items c.node.result.now c.node_value-value.result c.loop-n.invariant c.node.ensures
     (c.len-lawful.ensures.table.earlier c.loop-n.n c.node.result.now c.node.ensures)
     (subst (λ (values : List Truth). IsNodeValue (known_with standing facts) facts.live values c.node.result.now

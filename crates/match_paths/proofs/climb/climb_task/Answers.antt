@@ -1,10 +1,10 @@
-use Rattle.std.proofs.Common.{Some, refl}
-use Rattle.match_paths.proofs.NodeLemmas.{within_nodes}
+use Rattle.std.proofs.Common.{◌<◌, length, refl}
+use Rattle.std.proofs.lemmas.List.Elements.{All-get_or}
 use Rattle.match_paths.proofs.TurnLemmas.{by_none, by_next, by_all}
 use Rattle.match_paths.proofs.climb.climb_task.Goals as goal
 
 pub climb_next-requires-clause-node : goal.climb_next-requires-clause-node
-climb_next-requires-clause-node g c = within_nodes c.args.nodes.now (Some c.args.task.node) c.nexts-node-items.result.now c.loop-node.node-index c.len-nodes.ensures.trees c.nexts-node-items.ensures c.loop-node-test.true
+climb_next-requires-clause-node g c = All-get_or (λ node. node < length c.args.nodes.now.labels) c.nexts-node-items.result.now c.loop-node.node-index 0 c.loop-node-test.true c.nexts-node-items.ensures.within
 
 pub loop-node-init : goal.loop-node-init
 loop-node-init g c = by_none (g.G.ClassGraph.standing c.args.graph.now) c.args.entries.now c.args.nodes.now c.args.task.class c.nexts-node-items.result.now c.args.tasks.now c.args.claims.now
@@ -15,4 +15,4 @@ loop-node-preserved g c =
 
 pub returns : goal.returns
 returns g c =
-    by_all (g.G.ClassGraph.standing c.args.graph.now) c.args.entries.now c.args.nodes.now c.args.task.class c.nexts-node-items.result.now c.args.task refl c.loop-node.node-index c.args.tasks.now c.loop-node.tasks c.args.claims.now c.loop-node.claims c.nexts-node-items.ensures c.loop-node.auto.node-index-end c.loop-node-test.false c.loop-node.invariant
+    by_all (g.G.ClassGraph.standing c.args.graph.now) c.args.entries.now c.args.nodes.now c.args.task.class c.nexts-node-items.result.now c.args.task refl c.loop-node.node-index c.args.tasks.now c.loop-node.tasks c.args.claims.now c.loop-node.claims c.nexts-node-items.ensures.exact c.loop-node.auto.node-index-end c.loop-node-test.false c.loop-node.invariant

@@ -8,14 +8,14 @@ use Rattle.search_values.proofs.node_values.NodeValues.first_open.Goals as goal
 pub first_left-place-requires-clause-some : goal.first_left-place-requires-clause-some
 first_left-place-requires-clause-some c =
     let K : Kept → Type 0 = λ k. (n : ℕ) → IsStuck (given_of k) n → ⊥ in
-    open_has_left c.self.inside.wiring (now c.self.inside.noted) c.self.invariant.right (subst K (sym c.self.view_is) c.requires) c.in-Some.node c.in-Some.ensures.passes
+    open_has_left c.joining_law.ensures c.self.inside.wiring (now c.self.inside.noted) c.self.invariant.right (subst K (sym c.self.view_is) c.requires) c.in-Some.node c.in-Some.ensures.passes
 
 pub returns-in-Some-clause-some : goal.returns-in-Some-clause-some
 returns-in-Some-clause-some c =
     let K : Kept → Type 0 = λ k. IsSplit (given_of k) c.in-Some.node c.first_left-place.result in
-    subst K c.self.view_is (split_is c.self.inside.wiring (now c.self.inside.noted) c.self.invariant.right c.in-Some.node c.first_left-place.result c.in-Some.ensures c.first_left-place.ensures.within c.first_left-place.ensures.left c.first_left-place.ensures.first)
+    subst K c.self.view_is (split_is c.joining_law.ensures c.self.inside.wiring (now c.self.inside.noted) c.self.invariant.right c.in-Some.node c.first_left-place.result c.in-Some.ensures c.first_left-place.ensures.within c.first_left-place.ensures.left c.first_left-place.ensures.first)
 
 pub returns-in-None-clause-none : goal.returns-in-None-clause-none
 returns-in-None-clause-none c =
     let K : Kept → Type 0 = λ k. (n : ℕ) → IsOpen (given_of k) n → ⊥ in
-    subst K c.self.view_is (no_open c.self.inside.wiring (now c.self.inside.noted) c.self.invariant.right c.in-None.ensures)
+    subst K c.self.view_is (no_open c.joining_law.ensures c.self.inside.wiring (now c.self.inside.noted) c.self.invariant.right c.in-None.ensures)

@@ -1,5 +1,0 @@
-use Rattle.match_forest.specs.Index.{GrewEmpty}
-use Rattle.match_forest.proofs.index.grow.Given as goal
-
-abbrev pub invariant-loop-turn : goal.invariant-loop-turn
-invariant-loop-turn l = GrewEmpty l.fn.lists.items l.lists.items

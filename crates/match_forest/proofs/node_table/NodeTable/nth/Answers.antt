@@ -1,7 +1,0 @@
-use Rattle.std.proofs.Common.{arith}
-use Rattle.std.proofs.lemmas.Grind.{common_steps}
-use Rattle.std.proofs.lemmas.Option.{gets}
-use Rattle.match_forest.proofs.node_table.NodeTable.nth.Goals as goal
-
-pub returns : goal.returns
-returns c = (c.nexts-nexts.result.now, c.nexts-nexts.ensures, grind (arith, common_steps, gets))

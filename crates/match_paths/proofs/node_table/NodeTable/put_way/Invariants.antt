@@ -1,6 +1,0 @@
-use Rattle.std.proofs.Common.{◌≤◌, take}
-use Rattle.match_paths.specs.NodesInside.{Leads}
-use Rattle.match_paths.proofs.node_table.NodeTable.put_way.Given as goal
-
-abbrev pub invariant-loop-i : goal.invariant-loop-i
-invariant-loop-i l = record { some : 1 ≤ l.i; leads : Leads l.fn.self l.self (take l.i l.way) l.end }

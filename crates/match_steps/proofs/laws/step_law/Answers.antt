@@ -1,5 +1,0 @@
-use Rattle.match_steps.proofs.StepLaws.{step_law}
-use Rattle.match_steps.proofs.laws.step_law.Goals as goal
-
-pub returns : goal.returns
-returns c = step_law
