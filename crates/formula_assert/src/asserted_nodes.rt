@@ -44,6 +44,13 @@ impl AssertedNodes {
         self.nodes.contains(&n)
     }
 
+    /// All of them, in order.
+    pub fn as_slice(&self) -> &[u32]
+        ensures { result.now ≡ self.now }
+    {
+        self.nodes.as_slice()
+    }
+
     /// Puts a node last.
     pub fn put(&mut self, n: u32) -> Result<(), Memory>
         requires { Contains self.old n → ⊥ }

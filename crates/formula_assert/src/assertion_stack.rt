@@ -131,6 +131,13 @@ impl AssertionStack {
         self.asserted.has(n)
     }
 
+    /// The asserted nodes, in the order in which they were asserted.
+    pub fn asserted(&self) -> &[u32]
+        ensures { result.now ≡ self.now.asserted }
+    {
+        self.asserted.as_slice()
+    }
+
     /// Asserts a node that was entered, with all that it stands for. After want of memory a part of it may stand, which goes
     /// where a mark is gone back to.
     pub fn assert_entered(&mut self, n: u32) -> Result<(), Memory>

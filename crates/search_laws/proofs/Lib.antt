@@ -1,1 +1,11 @@
-
+pub mod Places
+pub mod FormulaLemmas
+pub mod OnceLemmas
+pub mod GraphLemmas
+pub mod Worlds
+pub mod FitLemmas
+pub mod Totals
+pub mod RefuteLemmas
+pub mod CompleteLemmas
+pub mod KeptLemmas
+pub mod WayOutLemmas

@@ -1,5 +1,5 @@
 -- Finite assignments, and formulas that none of them satisfies.
-use Rattle.std.specs.Prelude.{◌≡◌, ◌≢◌, ◌⊎◌, ℕ, ◌<◌, Bool, true, false, IsTrue, List, [], ◌∷◌, map, length}
+use Rattle.std.specs.Prelude.{◌≡◌, ◌≢◌, ◌⊎◌, ℕ, ◌<◌, Bool, true, false, IsTrue, List, [], ◌∷◌, length}
 use Rattle.std.specs.Prelude.{slice_get, Some, All, Contains}
 use Rattle.graph_terms.specs.declared.term_row.TermRow.{TermRow}
 use Rattle.graph_terms.specs.Terms.{term_row, HasRow}
@@ -24,8 +24,8 @@ pub data AreNumbered (given : Assignment) : List ℕ → List ℕ → Type 0 whe
   more : {term number : ℕ} {terms numbers : List ℕ} → IsNumbered given term number →
       AreNumbered given terms numbers → AreNumbered given (term ∷ terms) (number ∷ numbers)
 
--- Its terms begin with true and false, which have different numbers, and arguments are earlier; each term has a number,
--- and terms with one symbol and equal numbers of their arguments have one number.
+-- Its terms begin with true and false, which have different numbers, and arguments are earlier; each term has a
+-- number, and terms with one symbol and equal numbers of their arguments have one number.
 pub record IsAssignment (given : Assignment) : Type 0 where
   pub true_row : HasRow given.rows 0 (term_row 0 [])
   pub false_row : HasRow given.rows 1 (term_row 1 [])

@@ -24,8 +24,8 @@ pub record IsLeftOver (formulas : Formulas) (branch : Branch) (n : ℕ) (parts :
 abbrev pub HasNoYesPart : Formulas → Branch → List ℕ → Type 0
 HasNoYesPart formulas branch parts = (part : ℕ) → Contains parts part → IsYesIn formulas branch part → ⊥
 
--- what cannot be true together: true and false are equal, or the two ends of a difference are, or nothing is left over of
--- an asserted disjunction
+-- what cannot be true together: true and false are equal, or the two ends of a difference are, or nothing is left over
+-- of an asserted disjunction
 pub data Conflict (formulas : Formulas) (branch : Branch) : Type 0 where
   true_is_false : AreSame (known_in branch) 0 1 → Conflict formulas branch
   difference : {s t : ℕ} → Contains (known_in branch).differs (s, t) → AreSame (known_in branch) s t →

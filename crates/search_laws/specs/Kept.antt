@@ -1,5 +1,6 @@
 -- The assignment of a branch that is a way out.
-use Rattle.std.specs.Prelude.{◌≡◌, ℕ, ◌==◌, if◌then◌else◌, Bool, true, false, List, [], ◌∷◌, length, slice_get, Some, All}
+use Rattle.std.specs.Prelude.{◌≡◌, ℕ, ◌==◌, if◌then◌else◌, Bool, true, false, List, [], ◌∷◌, length, slice_get, Some}
+use Rattle.std.specs.Prelude.{All}
 use Rattle.std.specs.Option.{option_map_or}
 use Rattle.graph_terms.specs.declared.term_row.TermRow.{TermRow}
 use Rattle.graph_terms.specs.Terms.{HasRow}
@@ -20,8 +21,8 @@ pub record AreLeaders (standing : List Done) (leaders : List ℕ) : Type 0 where
 abbrev pub is_truth : (ℕ → Bool) → List TermRow → ℕ → Bool
 is_truth predicates rows term = option_map_or (λ row. predicates row.symbol) (slice_get rows term) false
 
--- The sorts are kept to, where these symbols are the predicates, true and false among them: no argument is a truth, and no
--- side of an equation, and each atom is one.
+-- The sorts are kept to, where these symbols are the predicates, true and false among them: no argument is a truth,
+-- and no side of an equation, and each atom is one.
 pub record KeepsSorts (predicates : ℕ → Bool) (rows : List TermRow) (nodes : List Node) : Type 0 where
   pub true_is : predicates 0 ≡ true
   pub false_is : predicates 1 ≡ true

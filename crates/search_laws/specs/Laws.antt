@@ -13,7 +13,7 @@ use Rattle.search_laws.specs.Kept.{AreLeaders, KeepsSorts, kept_assignment}
 -- terms and formulas are tables, and what is held is exactly what the asserted formulas stand for
 pub record IsInOrder (formulas : Formulas) (now : Held) : Type 0 where
   pub terms : IsTable (terms_of now.graph.standing)
-  pub formulas : IsFormulaTable formulas
+  pub table : IsFormulaTable formulas
   pub stand : NodesStand (length (terms_of now.graph.standing)) formulas.nodes
   pub exactly : HoldsExactly formulas now
 
@@ -27,8 +27,8 @@ abbrev pub UnsatRefutes : Type 0
 UnsatRefutes = (formulas : Formulas) (now : Held) → IsInOrder formulas now →
     Verdict formulas (first_branch now) unsat → AreRefuted (terms_of now.graph.standing) formulas.nodes now.asserted
 
--- The assignment of a way out is one, and it satisfies what is asserted there, whichever symbols are the predicates, if
--- the sorts are kept to; what was asserted at the start is among it.
+-- The assignment of a way out is one, and it satisfies what is asserted there, whichever symbols are the predicates,
+-- if the sorts are kept to; what was asserted at the start is among it.
 pub record IsWayOut (predicates : ℕ → Bool) (leaders : List ℕ) (formulas : Formulas) (now : Held) (last : Branch)
     : Type 0 where
   pub assigns : IsAssignment (kept_assignment predicates (terms_of now.graph.standing) leaders)

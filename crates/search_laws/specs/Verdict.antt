@@ -1,5 +1,5 @@
 -- The verdict of the plain search.
-use Rattle.std.specs.Prelude.{◌≡◌, ◌≢◌, ℕ, List, []}
+use Rattle.std.specs.Prelude.{◌≡◌, ◌≢◌, ℕ, []}
 use Rattle.formula_table.specs.declared.node.Node.{Node}
 use Rattle.formula_table.specs.Formulas.{Formulas}
 use Rattle.formula_value.specs.Holds.{HasNode}
@@ -23,9 +23,9 @@ pub record IsDecided (formulas : Formulas) (branch closed : Branch) : Type 0 whe
   pub quiet : IsQuiet formulas branch closed
   pub no_open : HasNoOpen formulas closed
 
--- The search of a branch ends so. The branch closes. With a conflict there is no way out. Else the first open disjunction
--- is split: its first part left over is asserted, and where that ends without a way out, it is struck. Where none is open
--- and no forall is asserted, the branch is a way out.
+-- The search of a branch ends so. The branch closes. With a conflict there is no way out. Else the first open
+-- disjunction is split: its first part left over is asserted, and where that ends without a way out, it is struck.
+-- Where none is open and no forall is asserted, the branch is a way out.
 pub data Verdict (formulas : Formulas) : Branch → Ending → Type 0 where
   conflict : {branch closed : Branch} → Closes formulas branch closed → Conflict formulas closed →
       Verdict formulas branch unsat

@@ -1,10 +1,14 @@
 //! Laws of the search, each on a function that does nothing.
 ghost use Rattle.search_laws.specs.Laws.{HasOneVerdict, UnsatRefutes, SatSatisfies};
 
+use formula_assert::laws::asserts_law;
+
 /// The search of a branch ends in one way.
 pub fn one_verdict_law()
     ensures { HasOneVerdict }
-{}
+{
+    asserts_law();
+}
 
 /// Where the search of what is held ends without a way out, no finite assignment satisfies what is asserted.
 pub fn unsat_law()

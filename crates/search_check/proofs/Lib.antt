@@ -1,0 +1,9 @@
+pub mod ListLemmas
+pub mod OverLemmas
+pub mod TruthLemmas
+pub mod LeftLemmas
+pub mod FoundLemmas
+pub mod StepLemmas
+pub mod KeptLemmas
+pub mod WayLemmas
+pub mod UnderWayLemmas

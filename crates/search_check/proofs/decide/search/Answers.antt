@@ -1,0 +1,27 @@
+use Rattle.std.proofs.Common.{ap, subst, ◌∙◌}
+use Rattle.formula_table.specs.Formulas.{Formulas}
+use Rattle.search_check.specs.UnderWay.{GoesOn}
+use Rattle.search_check.proofs.UnderWayLemmas.{over_start, same_formulas}
+use Rattle.search_check.proofs.decide.search.Goals as goal
+
+pub advance-requires-clause-ground : goal.advance-requires-clause-ground
+advance-requires-clause-ground c =
+    ap (λ (formulas : Formulas). formulas.foralls)
+    (same_formulas c.args.stack.now c.loop-step.stack c.loop-step.search.asides.items c.loop-step.search.struck.items
+    c.loop-step.invariant)
+    ∙ c.requires
+
+pub returns-in_err-outcome-clause-more : goal.returns-in_err-outcome-clause-more
+returns-in_err-outcome-clause-more c = c.advance.ensures.more c.args.stack.now c.loop-step.invariant
+
+pub returns-in-Some-clause-verdict : goal.returns-in-Some-clause-verdict
+returns-in-Some-clause-verdict c =
+    subst (GoesOn c.args.stack.now c.advance.new.stack c.advance.new.self) c.in-Some.is
+    (c.in_ok-outcome.ensures.ok c.args.stack.now c.loop-step.invariant)
+
+pub returns-in-Some-clause-more : goal.returns-in-Some-clause-more
+returns-in-Some-clause-more c = c.advance.ensures.more c.args.stack.now c.loop-step.invariant
+
+pub returns-clause-more : goal.returns-clause-more
+returns-clause-more c = over_start c.args.stack.now c.loop-step.stack c.loop-step.search.asides.items
+    c.loop-step.search.struck.items c.loop-step.invariant

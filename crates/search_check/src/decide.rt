@@ -1,0 +1,40 @@
+//! Decides what stands.
+ghost use Rattle.std.specs.Prelude.{◌≡◌, [], IfOk};
+ghost use Rattle.formula_assert.specs.Assertions.{held_of};
+ghost use Rattle.formula_assert.specs.InLevel.{HoldsMoreOver};
+ghost use Rattle.search_check.specs.Verdicts.{IsVerdictOf};
+
+use crate::outcome::Outcome;
+use crate::search::Search;
+use formula_assert::AssertionStack;
+use graph_terms::Memory;
+use std::alloc::Global;
+
+/// Searches what the stack holds. More is held after it.
+fn search(alloc: Global, stack: &mut AssertionStack) -> Result<Outcome, Memory>
+    requires { stack.old.formulas.foralls ≡ [] }
+    ensures verdict { IfOk result (IsVerdictOf stack.old.formulas (held_of stack.old)) }
+    ensures more { HoldsMoreOver stack.old stack.new }
+{
+    let mut search = Search::new(alloc);
+    for _step in 0..u64::MAX {
+        if let Some(outcome) = search.advance(alloc, stack)? {
+            return Ok(outcome);
+        }
+    }
+    Err(Memory)
+}
+
+/// Decides what the stack holds by the plain search. Whatever is answered, the stack is as before.
+///
+/// `Memory` comes where memory is refused, or a count would have passed the greatest number of its type.
+pub fn check(alloc: Global, stack: &mut AssertionStack) -> Result<Outcome, Memory>
+    requires ground { stack.old.formulas.foralls ≡ [] }
+    ensures verdict { IfOk result (IsVerdictOf stack.old.formulas (held_of stack.old)) }
+    ensures same { stack.new ≡ stack.old }
+{
+    let mark = stack.mark();
+    let outcome = search(alloc, stack);
+    stack.back_to(mark);
+    outcome
+}

@@ -1,0 +1,134 @@
+//! A search with the splits whose first halves are under way.
+ghost use Rattle.std.specs.Prelude.{◌≡◌, ◌<◌, ◌++◌, ◌∷◌, [], length, take, IfOk, OnOk, OnErr};
+ghost use Rattle.formula_assert.specs.Assertions.{Assertions, held_of};
+ghost use Rattle.formula_assert.specs.InLevel.{HoldsMoreOver};
+ghost use Rattle.search_check.specs.Steps.{IsStep};
+ghost use Rattle.search_check.specs.Truths.{branch_of};
+ghost use Rattle.search_check.specs.UnderWay.{IsSearching, GoesOn};
+
+use crate::aside::Aside;
+use crate::kept::kept_of;
+use crate::outcome::Outcome;
+use crate::step::{Step, next_step};
+use formula_assert::AssertionStack;
+use graph_terms::Memory;
+use std::alloc::Global;
+
+/// The splits whose first halves are under way, the last of them last, and the struck places: a disjunction and a place of it.
+#[derive(Drop)]
+pub(crate) struct Search {
+    asides: Vec<Aside>,
+    struck: Vec<(u32, u32)>,
+}
+
+/// Puts a split last.
+fn push_aside(asides: &mut Vec<Aside>, aside: Aside) -> Result<(), Memory>
+    ensures ok { OnOk result (asides.new.items ≡ asides.old.items ++ aside ∷ []) }
+    ensures err { OnErr result (asides.new.items ≡ asides.old.items) }
+{
+    asides.push(aside)?;
+    Ok(())
+}
+
+/// Keeps the first so many places, and puts this one last.
+fn strike(struck: &mut Vec<(u32, u32)>, count: usize, node: u32, place: u32) -> Result<(), Memory>
+    ensures { OnOk result (struck.new.items ≡ take count struck.old.items ++ (node, place) ∷ []) }
+{
+    struck.truncate(count);
+    struck.push((node, place))?;
+    Ok(())
+}
+
+impl Search {
+    /// Nothing is split.
+    pub(crate) fn new(alloc: Global) -> Search
+        ensures { (start : Assertions) → IsSearching start start result }
+    {
+        let asides = Vec::new(alloc);
+        let struck = Vec::new(alloc);
+        Search { asides, struck }
+    }
+
+    /// Takes up the second half of the last split that is under way; where there is none, the search is lost.
+    fn take_up(&mut self, stack: &mut AssertionStack) -> Result<Option<Outcome>, Memory>
+        requires { (start : Assertions) × IsSearching start stack.old self.old }
+        ensures ok { IfOk result (λ outcome. (start : Assertions) → IsSearching start stack.old self.old → IsStep stack.old.formulas (branch_of stack.old self.old.struck.items) Step.Lost → GoesOn start stack.new self.new outcome) }
+        ensures more { (start : Assertions) → IsSearching start stack.old self.old → HoldsMoreOver start stack.new }
+    {
+        match self.asides.pop() {
+            None => return Ok(Some(Outcome::Unsat)),
+            Some(aside) => {
+                stack.back_to(aside.mark);
+                strike(&mut self.struck, aside.struck, aside.node, aside.place)?;
+                stack.refute(aside.part)?;
+                return Ok(None);
+            }
+        }
+    }
+
+    /// Asserts the one part left over.
+    fn assert(&self, stack: &mut AssertionStack, part: u32) -> Result<Option<Outcome>, Memory>
+        requires { part < length stack.old.formulas.nodes }
+        ensures ok { IfOk result (λ outcome. (start : Assertions) → IsSearching start stack.old self.now → IsStep stack.old.formulas (branch_of stack.old self.now.struck.items) (Step.Assert part) → GoesOn start stack.new self.now outcome) }
+        ensures more { HoldsMoreOver stack.old stack.new }
+    {
+        stack.assert_entered(part)?;
+        Ok(None)
+    }
+
+    /// Splits a disjunction: asserts the part at the place, and keeps the second half.
+    fn split(
+        &mut self,
+        stack: &mut AssertionStack,
+        node: u32,
+        place: u32,
+        part: u32,
+    ) -> Result<Option<Outcome>, Memory>
+        requires { part < length stack.old.formulas.nodes }
+        ensures ok { IfOk result (λ outcome. (start : Assertions) → IsSearching start stack.old self.old → IsStep stack.old.formulas (branch_of stack.old self.old.struck.items) (Step.Split node place part) → GoesOn start stack.new self.new outcome) }
+        ensures more { HoldsMoreOver stack.old stack.new }
+    {
+        let mark = stack.mark();
+        let struck = self.struck.len();
+        let aside = Aside {
+            node,
+            place,
+            part,
+            mark,
+            struck,
+        };
+        push_aside(&mut self.asides, aside)?;
+        stack.assert_entered(part)?;
+        Ok(None)
+    }
+
+    /// The way out that the stack holds.
+    fn way_out(&self, alloc: Global, stack: &AssertionStack) -> Result<Option<Outcome>, Memory>
+        requires { stack.now.formulas.foralls ≡ [] }
+        ensures { IfOk result (λ outcome. (start : Assertions) → IsSearching start stack.now self.now → IsStep stack.now.formulas (branch_of stack.now self.now.struck.items) Step.WayOut → GoesOn start stack.now self.now outcome) }
+    {
+        let _nodes = stack.formulas().len();
+        let kept = kept_of(alloc, stack)?;
+        Ok(Some(Outcome::Sat { kept }))
+    }
+
+    /// Does the next step, and gives the outcome where that was the last.
+    pub(crate) fn advance(
+        &mut self,
+        alloc: Global,
+        stack: &mut AssertionStack,
+    ) -> Result<Option<Outcome>, Memory>
+        requires ground { stack.old.formulas.foralls ≡ [] }
+        requires under_way { (start : Assertions) × IsSearching start stack.old self.old }
+        ensures ok { IfOk result (λ outcome. (start : Assertions) → IsSearching start stack.old self.old → GoesOn start stack.new self.new outcome) }
+        ensures more { (start : Assertions) → IsSearching start stack.old self.old → HoldsMoreOver start stack.new }
+    {
+        let step = next_step(alloc, stack, &self.struck)?;
+        match step {
+            Step::Lost => return self.take_up(stack),
+            Step::Assert { part } => return self.assert(stack, part),
+            Step::Split { node, place, part } => return self.split(stack, node, place, part),
+            Step::WayOut => return self.way_out(alloc, stack),
+        }
+    }
+}
