@@ -1,4 +1,3 @@
 //! Formulas that are made and entered.
 mod entry;
 mod library;
-mod values;

@@ -1,4 +1,4 @@
-//! Tests of the public calls that keep values of formulas under changes.
+//! Tests of truth values and of the sets that a search keeps.
 #![tactic(auto)]
 
 #[cfg(test)]

@@ -1,4 +1,3 @@
-//! Sets, boards, values that are kept, and which literals are looked at.
-mod board;
+//! Truth values, and sets of numbers.
 mod set;
-mod values;
+mod truths;
