@@ -1,0 +1,3 @@
+//! Truth values, and sets of numbers.
+mod set;
+mod truths;
