@@ -1,5 +1,5 @@
 -- What a run leaves at each of its ends.
-use Rattle.std.proofs.Common.{◌≡◌, ◌≢◌, ◌⊎◌, inl, inr, ℕ, Bool, true, false, List, [], ◌++◌, refl, ap, sym, ◌∙◌, Option, Some, None, append_assoc, subst}
+use Rattle.std.proofs.Common.{◌≡◌, ◌≢◌, ◌⊎◌, inl, inr, ℕ, Bool, true, false, List, [], ◌++◌, refl, ap, sym, ◌∙◌, Option, Some, None, subst}
 use Rattle.std.specs.Prelude.{IfSome, Ok, Err}
 use Rattle.std.specs.Io.KnownBytes.{Consumes}
 use Rattle.std.proofs.lemmas.List.{append-nil}
@@ -22,12 +22,12 @@ use Rattle.ematch_cli.specs.Output.{Answer, Ending, Open, Finished, Failed, IsAn
 use Rattle.ematch_cli.specs.ErrorLine.{fault_line}
 use Rattle.ematch_cli.specs.Status.{outside_status}
 use Rattle.ematch_cli.specs.WritesError.{WritesError}
-use Rattle.ematch_cli.specs.Headline.{Wrote, WroteFront, WroteFrontOf, Ends, Answers}
+use Rattle.ematch_cli.specs.Headline.{Wrote, WroteFront, WroteFrontOf, Answers}
 use Rattle.ematch_cli.specs.declared.status.Status.{Status}
 use Rattle.ematch_cli.specs.declared.status.Status.TheVariants as status
 use Rattle.em_words.specs.declared.task.Task.{Task}
 use Rattle.ematch_cli.proofs.OneAnswer.{answer_once}
-use Rattle.ematch_cli.proofs.Reached.{Reached, ahead, reached_read, reached_reply, answered, answered_taken, answered_only, ends_only, no_memory, open_failed, finished_failed, open_answer, open_only, fault_answer, end_answer, end_only, refused_answer, exit_answer, right_now, unclosed, front_none, front_taken, fault_front, unclosed_front, refused_front, reply_front}
+use Rattle.ematch_cli.proofs.Reached.{Reached, ahead, reached_read, reached_reply, answered, answered_taken, ends_only, no_memory, open_failed, finished_failed, open_answer, open_only, fault_answer, end_answer, end_only, refused_answer, exit_answer, right_now, unclosed, front_none, front_taken, fault_front, unclosed_front, refused_front, reply_front}
 
 by_status : (s : Status) (P : Status → Type 0) → (s ≡ status.ScriptError) ⊎ ((s ≡ status.WriteFault) ⊎ (s ≡ status.NoMemory))
     → (s ≡ status.ScriptError → P status.ScriptError) → (s ≡ status.WriteFault → P status.WriteFault) → (s ≡ status.NoMemory → P status.NoMemory) → P s

@@ -1,6 +1,5 @@
 -- Each script has one answer at most.
-use Rattle.std.proofs.Common.{◌≡◌, ◌≢◌, ℕ, zero, suc, inl, inr, Bool, List, [], ◌∷◌, ◌++◌, Ok, Err, refl, sym, ap, ap₂, subst, ◌∙◌, append_assoc}
-use Rattle.std.proofs.lemmas.List.{append-nil}
+use Rattle.std.proofs.Common.{◌≡◌, ℕ, zero, suc, inl, inr, Bool, List, [], ◌++◌, Ok, Err, refl, sym, ap, ap₂, subst, ◌∙◌, append_assoc}
 use Rattle.std.specs.Prelude.{Result}
 use Rattle.em_outside.specs.declared.limits.Limits.{Limits}
 use Rattle.smt_text.specs.Word.{Word}
@@ -12,17 +11,15 @@ use Rattle.formula_assert.specs.AssertFormula.{StopsAssert}
 use Rattle.formula_assert.specs.NoForalls.{HasNoForalls}
 use Rattle.formula_assert.specs.Tables.{AreTables}
 use Rattle.formula_assert.proofs.OutcomeLaws.{tables_at_start, tables_pushed, tables_popped, tables_asserted, asserts_formula_once, asserted_not_stopped, stopped_once}
-use Rattle.smt_names.specs.Names.{State, at_start}
-use Rattle.smt_names.specs.declared.syntax_fault.SyntaxFault.{SyntaxFault}
+use Rattle.smt_names.specs.Names.{State}
 use Rattle.smt_commands.specs.SessionLaws.{IsSound}
 use Rattle.search_laws.specs.Branch.{first_branch}
-use Rattle.search_laws.specs.Verdict.{Ending}
 use Rattle.search_laws.specs.Laws.{HasOneVerdict}
 use Rattle.smt_commands.specs.Commands.{elaborate}
 use Rattle.smt_commands.specs.Commands as commands
 use Rattle.smt_commands.specs.declared.command.Command as syntax
 use Rattle.smt_commands.specs.declared.command.Command.TheVariants as command
-use Rattle.ematch_cli.specs.ErrorLine.{refusal_line, room_line, unbuilt_line}
+use Rattle.ematch_cli.specs.ErrorLine.{refusal_line, room_line}
 use Rattle.em_printing.specs.Names.{names_of}
 use Rattle.ematch_cli.specs.Response.{verdict_line, IsCheckResponse, IsResponse}
 use Rattle.ematch_cli.specs.RunState.{RunState, run_state}

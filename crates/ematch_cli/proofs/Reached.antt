@@ -12,13 +12,12 @@ use Rattle.smt_text.specs.Reading.{Reading, script, start}
 use Rattle.smt_text.specs.declared.byte_fault.ByteFault.{ByteFault}
 use Rattle.smt_text.specs.declared.byte_fault.ByteFault.TheVariants.{BadByte, Unclosed, Stray, TooDeep, TooLong}
 use Rattle.smt_text.specs.declared.token.Place.{Place}
-use Rattle.smt_names.specs.Names.{at_start}
 use Rattle.smt_commands.specs.declared.command.Command as syntax
 use Rattle.smt_commands.specs.declared.command.Command.TheVariants.{Exit}
 use Rattle.ematch_cli.specs.RunLaws.{RunLaws}
 use Rattle.ematch_cli.specs.RunState.{RunState}
 use Rattle.ematch_cli.specs.Run.{Replies, IsRefused}
-use Rattle.ematch_cli.specs.Output.{Answer, Ending, Open, Finished, Failed, IsAnswer, BeginsWith, IsAnswerFront, behind, failure, last, silence, at_end, opening, IsOutputSoFar}
+use Rattle.ematch_cli.specs.Output.{Answer, Open, Finished, Failed, IsAnswer, BeginsWith, IsAnswerFront, behind, failure, last, silence, at_end, opening}
 use Rattle.ematch_cli.specs.ErrorLine.{fault_line}
 use Rattle.ematch_cli.specs.Headline.{WroteFrontOf, Answers}
 use Rattle.ematch_cli.specs.declared.status.Status.TheVariants as status

@@ -1,4 +1,4 @@
-use Rattle.std.proofs.Common.{◌≡◌, List, ℕ, ◌++◌, length, refl, ap, ◌∙◌}
+use Rattle.std.proofs.Common.{◌≡◌, ◌++◌, length, refl}
 use Rattle.ematch_cli.specs.Listing.{heading}
 use Rattle.ematch_cli.proofs.Matches.{match_terms}
 use Rattle.ematch_cli.proofs.Texts.{put_two}
