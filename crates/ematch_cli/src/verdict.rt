@@ -1,7 +1,5 @@
 //! What a search answers.
 ghost use Rattle.std.specs.Prelude.{◌≡◌, [], IfOk};
-ghost use Rattle.formula_assert.specs.Assertions.{held_of};
-ghost use Rattle.search_check.specs.Verdicts.{IsVerdictOf};
 ghost use Rattle.ematch_cli.specs.Response.{IsSearched};
 ghost use Rattle.ematch_cli.specs.Reply.{outcome_line};
 

@@ -3,7 +3,7 @@ use Rattle.std.proofs.Common.{◌≡◌, ◌⊎◌, inl, inr, ⊎_elim, List, []
 use Rattle.std.proofs.lemmas.List.Elements.{Contains-append_cases, Contains-append_left, Contains-append_right, Contains-push, Contains-push_cases}
 use Rattle.formula_truth.specs.declared.truth.Truth.{Truth}
 use Rattle.formula_truth.specs.declared.truth.Truth.TheVariants.{Yes, No, Unset}
-use Rattle.formula_truth.specs.Truths.{and_of, or_of, all_of, some_of}
+use Rattle.formula_truth.specs.Truths.{and_of, or_of}
 use Rattle.formula_truth.specs.Joins.{IsJoin, AreJoins}
 
 contains_head : (x : Truth) (xs : List Truth) → Contains (x ∷ xs) x

@@ -1,7 +1,6 @@
 -- Adding ways.
-use Rattle.std.proofs.Common.{◌≡◌, ◌⊎◌, ⊎_elim, ℕ, List, [], ◌∷◌, ◌++◌, length, take, slice_get, Some, refl, sym, ap, ap₂, subst, ◌∙◌, arith, length-append}
+use Rattle.std.proofs.Common.{◌≡◌, ◌⊎◌, ⊎_elim, ℕ, List, [], ◌∷◌, ◌++◌, length, slice_get, Some, refl, sym, ap, subst, arith}
 use Rattle.std.proofs.lemmas.Bool.{cases_lt}
-use Rattle.std.proofs.lemmas.List.{take_all, take-take, take-append-le}
 use Rattle.std.proofs.lemmas.Option.{slice_get_within}
 use Rattle.graph_terms.proofs.ListLaws.{push_cases, slice_get-push}
 use Rattle.match_trees.specs.declared.entry.Entry.{Entry}
@@ -9,7 +8,7 @@ use Rattle.match_paths.specs.declared.link.Link.{Link}
 use Rattle.match_trees.specs.Trees.{Trees, Way, AreTrees}
 use Rattle.match_trees.specs.Growth.{Leads}
 use Rattle.match_trees.specs.TreeLaws.{GrowthLaws, EntryLaws}
-use Rattle.match_trees.specs.EntryList.{EntryList, ExtendsList, with_entry, entry_of}
+use Rattle.match_trees.specs.EntryList.{EntryList, with_entry, entry_of}
 use Rattle.match_paths.specs.Wants.{AddsWays, IsThisWay}
 use Rattle.match_paths.proofs.WantLemmas.{still_entry, still_end, old_entry, old_end}
 

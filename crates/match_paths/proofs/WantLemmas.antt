@@ -5,7 +5,7 @@ use Rattle.std.proofs.lemmas.Option.{same_Some, slice_get_within}
 use Rattle.graph_terms.proofs.ListLaws.{push_cases, slice_get-push, slice_get-append_left, slice_get-take, slice_get-take_below, element_at}
 use Rattle.graph_trigger.specs.declared.trigger.Trigger.{Trigger}
 use Rattle.graph_trigger.specs.declared.pattern_row.PatternRow.TheVariants.{Var, App}
-use Rattle.graph_trigger.specs.Trigger.{Occurs, IsValid, IsApplication}
+use Rattle.graph_trigger.specs.Trigger.{Occurs, IsValid}
 use Rattle.graph_trigger.specs.Trigger as pattern
 use Rattle.graph_meaning.specs.Justified.{AppliesAt}
 use Rattle.match_laws.proofs.FollowLaws.{same_symbol, same_parts}

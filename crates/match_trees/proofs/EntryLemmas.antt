@@ -1,5 +1,5 @@
 -- Lists of entries that grow.
-use Rattle.std.proofs.Common.{◌≡◌, ℕ, ◌≤◌, List, [], ◌∷◌, length, refl, sym, ap, ap₂, ◌∙◌, arith, length-append}
+use Rattle.std.proofs.Common.{◌≡◌, ℕ, ◌≤◌, List, [], ◌∷◌, length, sym, ap, ap₂, ◌∙◌, arith, length-append}
 use Rattle.std.proofs.lemmas.List.{take_all, take-take, take-append-le}
 use Rattle.match_trees.specs.declared.entry.Entry.{Entry}
 use Rattle.match_trees.specs.EntryList.{EntryList, ExtendsList, list_front, with_entry}

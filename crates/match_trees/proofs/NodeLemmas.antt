@@ -1,11 +1,11 @@
 -- What calls of a `NodeTable` do.
-use Rattle.std.proofs.Common.{◌≡◌, ℕ, zero, suc, ◌+◌, ◌-◌, ◌<◌, ◌≤◌, ◌^◌, ◌⊎◌, inl, inr, ⊎_elim, List, [], ◌∷◌, ◌++◌, length, map, take, get_or, slice_get, All, IfSome, Option, Some, None, Contains, AllPairs, refl, sym, ap, ap₂, subst, ◌∙◌, arith, length-append}
+use Rattle.std.proofs.Common.{◌≡◌, ℕ, zero, suc, ◌+◌, ◌-◌, ◌<◌, ◌≤◌, ◌^◌, ◌⊎◌, inl, inr, ⊎_elim, List, [], ◌∷◌, ◌++◌, length, map, take, get_or, slice_get, All, IfSome, Option, Some, None, AllPairs, refl, sym, ap, ap₂, subst, ◌∙◌, arith, length-append}
 use Rattle.std.proofs.lemmas.Option.{none-some, same_Some, slice_get_within}
 use Rattle.std.proofs.lemmas.List.{take_all, take-take, take-append-le, map-append, take-map, length-map, length-take-le, get_or_default}
 use Rattle.std.proofs.lemmas.List.Elements.{All-from_get_or, Contains-get_or}
-use Rattle.graph_terms.proofs.ListLaws.{slice_get-append_left, slice_get-push, push_cases, slice_get-take, place_from_Contains, element_at}
+use Rattle.graph_terms.proofs.ListLaws.{slice_get-push, push_cases, slice_get-take, element_at}
 use Rattle.graph_meaning.specs.Questions.{AreAll}
-use Rattle.match_trees.specs.Trees.{Trees, IsRoot, IsNext, Path, here, down, Way, AreJoined, AreTrees, trees_front, with_node}
+use Rattle.match_trees.specs.Trees.{Trees, Path, here, down, Way, AreTrees, trees_front, with_node}
 use Rattle.match_trees.specs.Growth.{Extends, Puts, Leads}
 use Rattle.match_trees.specs.NodesInside.{above_of}
 use Rattle.match_trees.proofs.IndexLemmas.{all_as}

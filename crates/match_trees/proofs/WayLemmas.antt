@@ -1,8 +1,8 @@
 -- Codes down trees.
-use Rattle.std.proofs.Common.{◌≡◌, ℕ, zero, suc, ◌+◌, ◌<◌, ◌⊎◌, inl, inr, ⊎_elim, List, [], ◌∷◌, ◌++◌, length, take, ◌≤◌, slice_get, Option, Some, None, refl, sym, ap, subst, ◌∙◌, arith}
-use Rattle.std.proofs.lemmas.Option.{none-some, same_Some, slice_get_within}
+use Rattle.std.proofs.Common.{◌≡◌, ℕ, ◌+◌, ◌<◌, ◌⊎◌, inl, inr, ⊎_elim, List, [], ◌∷◌, ◌++◌, length, ◌≤◌, slice_get, Option, Some, None, refl, sym, subst, ◌∙◌, arith}
+use Rattle.std.proofs.lemmas.Option.{same_Some, slice_get_within}
 use Rattle.graph_terms.proofs.ListLaws.{slice_get-append_left, slice_get-push, push_cases, slice_get-take, slice_get-take_below}
-use Rattle.match_trees.specs.Trees.{Trees, IsRoot, IsNext, Path, here, down, Way, AreJoined, AreTrees, trees_front, with_node}
+use Rattle.match_trees.specs.Trees.{Trees, IsNext, Path, here, down, Way, AreJoined, trees_front, with_node}
 
 module _ {L : Type 0} where
   -- a path of one node, or of more

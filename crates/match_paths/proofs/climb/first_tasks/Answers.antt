@@ -1,4 +1,4 @@
-use Rattle.std.proofs.Common.{None, List, sym, subst}
+use Rattle.std.proofs.Common.{◌<◌, List, length, sym, subst}
 use Rattle.match_paths.specs.declared.task.Task.{Task}
 use Rattle.std.proofs.lemmas.List.Elements.{All-get_or}
 use Rattle.match_paths.proofs.TurnLemmas.{FirstTo, first_none, first_next, first_all}

@@ -1,4 +1,4 @@
-use Rattle.std.proofs.Common.{[], ◌∷◌, ◌++◌, List, ℕ, sym, subst}
+use Rattle.std.proofs.Common.{sym, subst}
 use Rattle.match_trees.specs.Index.{GrewEmpty}
 use Rattle.match_trees.proofs.IndexLemmas.{grew_none, grew_more}
 use Rattle.match_trees.proofs.index.grow.Goals as goal

@@ -1,4 +1,4 @@
-use Rattle.std.proofs.Common.{◌≡◌, ◌∷◌, [], ◌++◌, ℕ, List, slice_get, Some, sym, subst, ap, ◌∙◌, arith, set, take, length, get_or, ◌-◌}
+use Rattle.std.proofs.Common.{sym, subst, ◌-◌}
 use Rattle.match_trees.specs.Index.{IsIndexed}
 use Rattle.match_trees.proofs.IndexLemmas.{indexed_pop}
 use Rattle.match_trees.proofs.index.Index.pop.Goals as goal

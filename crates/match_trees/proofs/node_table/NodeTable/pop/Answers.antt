@@ -1,4 +1,4 @@
-use Rattle.std.proofs.Common.{◌≡◌, ◌∙◌, ◌-◌, ◌<◌, ◌≤◌, take, length, List, ℕ, ap, ap₂, sym, subst, arith}
+use Rattle.std.proofs.Common.{◌≡◌, ◌∙◌, ◌-◌, ◌≤◌, length, ap, ap₂, sym, subst, arith}
 use Rattle.std.proofs.lemmas.List.{length-take-le}
 use Rattle.match_trees.specs.Trees.{Trees, AreTrees, trees_front}
 use Rattle.match_trees.proofs.NodeLemmas.{pop_is, front_sound, kept_trees}

@@ -1,4 +1,4 @@
-use Rattle.std.proofs.Common.{◌≡◌, ◌∙◌, ◌<◌, ◌∷◌, [], ◌++◌, ℕ, length, slice_get, Some, IfSome, ap, ap₂, sym, subst, arith, length-append}
+use Rattle.std.proofs.Common.{◌≡◌, ◌∙◌, ◌<◌, ◌∷◌, [], ℕ, length, slice_get, Some, IfSome, ap, ap₂, sym, subst, arith, length-append}
 use Rattle.match_trees.specs.Trees.{Trees, AreTrees, with_node}
 use Rattle.match_trees.proofs.NodeLemmas.{push_is, with_sound, kept_trees}
 use Rattle.match_trees.proofs.node_table.NodeTable.push.Goals as goal

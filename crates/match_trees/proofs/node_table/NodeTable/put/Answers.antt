@@ -1,4 +1,4 @@
-use Rattle.std.proofs.Common.{◌≡◌, ◌∙◌, Option, ap, sym, subst}
+use Rattle.std.proofs.Common.{◌∙◌, ap}
 use Rattle.match_trees.specs.Trees.{with_node}
 use Rattle.match_trees.proofs.NodeLemmas.{puts_old, puts_new}
 use Rattle.match_trees.proofs.node_table.NodeTable.put.Goals as goal

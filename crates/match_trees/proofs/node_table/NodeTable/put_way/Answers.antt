@@ -1,4 +1,4 @@
-use Rattle.std.proofs.Common.{◌≡◌, ◌∷◌, ◌++◌, [], take, List, ◌∙◌, Option, ap, sym, subst, arith}
+use Rattle.std.proofs.Common.{take, List, sym, subst, arith}
 use Rattle.graph_terms.proofs.ListLaws.{take-slice_get}
 use Rattle.match_trees.specs.Growth.{Leads}
 use Rattle.match_trees.proofs.WayLemmas.{path_end}

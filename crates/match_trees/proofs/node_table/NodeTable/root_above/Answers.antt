@@ -1,5 +1,3 @@
-use Rattle.std.proofs.Common.{arith}
-use Rattle.std.proofs.lemmas.Option.{slice_get_within}
 use Rattle.match_trees.proofs.NodeLemmas.{path_none, path_up, above_within}
 use Rattle.match_trees.proofs.node_table.NodeTable.root_above.Goals as goal
 

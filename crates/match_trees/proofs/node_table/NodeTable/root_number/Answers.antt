@@ -1,4 +1,4 @@
-use Rattle.std.proofs.Common.{rules, None, Some, ◌<◌, ◌^◌, ◌∙◌, ap, sym, arith}
+use Rattle.std.proofs.Common.{rules, None, Some, ◌<◌, ◌^◌, ◌∙◌, ap, sym}
 use Rattle.std.proofs.lemmas.Option.{slice_get-get_or}
 use Rattle.match_trees.specs.Trees.{IsRoot}
 use Rattle.match_trees.proofs.NodeLemmas.{place_small, not_passed}
