@@ -1,5 +1,6 @@
 -- What a verdict tells of finite assignments.
-use Rattle.std.proofs.Common.{ℕ, Bool, Contains, length}
+use Rattle.std.proofs.Common.{ℕ, length, Ok, Err}
+use Rattle.std.specs.Prelude.{Result, IfOk}
 use Rattle.graph_terms.specs.Terms.{IsTable}
 use Rattle.graph_meaning.specs.Standing.{terms_of}
 use Rattle.formula_table.specs.Formulas.{Formulas}
@@ -24,3 +25,8 @@ module _ (formulas : Formulas) (now : Held) (terms : IsTable (terms_of now.graph
       let way = sat_satisfies formulas now verdict.0 kept.leaders predicates (in_order exactly) verdict.1 verdict.2
           sorts in
       (way.assigns, λ n asserted. way.satisfies n (way.among n asserted))
+
+  pub told_of : {E : Type 0} (result : Result Outcome E) → IfOk result (IsVerdictOf formulas now) →
+      IfOk result (λ outcome. HoldsExactly formulas now → TellsOfAssignments formulas now outcome)
+  told_of (Ok outcome) verdict = told outcome verdict
+  told_of (Err refused) verdict = tt
