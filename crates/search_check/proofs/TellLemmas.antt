@@ -23,7 +23,7 @@ module _ (formulas : Formulas) (now : Held) (terms : IsTable (terms_of now.graph
   told Unsat verdict exactly = unsat_refutes formulas now terms exactly verdict
   told (Sat kept) verdict exactly = λ predicates sorts.
       let way = sat_satisfies formulas now verdict.0 kept.leaders predicates (in_order exactly) verdict.1 verdict.2
-          sorts in
+      sorts in
       (way.assigns, λ n asserted. way.satisfies n (way.among n asserted))
 
   pub told_of : {E : Type 0} (result : Result Outcome E) → IfOk result (IsVerdictOf formulas now) →

@@ -81,7 +81,7 @@ pub none_live : (formulas : Formulas) → IsFormulaTable formulas → formulas.f
     live_in formulas branch ≡ []
 none_live formulas table ground branch = no_foralls formulas.nodes
     (λ n forall at. let within = table.foralls_stand n forall at in let none = ap length ground in omega
-        (arith, within, none))
+    (arith, within, none))
     branch.held.asserted
 
 -- the value of a formula tells whether it is Yes or No
@@ -109,9 +109,9 @@ module _ (formulas : Formulas) (now : Held) (facts : Facts) (values : List Truth
       let live_is : facts.live ≡ live_in formulas (first_branch now) =
       of.live ∙ sym (none_live formulas table ground (first_branch now)) in
       subst (λ (known : Known). HasValue known (live_in formulas (first_branch now)) formulas.nodes n
-          (value_at values n)) known_is
+      (value_at values n)) known_is
       (subst (λ (live : List ℕ). HasValue (known_with now.graph.standing facts) live formulas.nodes n
-          (value_at values n)) live_is
+      (value_at values n)) live_is
       (first.each n (value_at values n) (slice_get-get_or values n Unset within)))
 
   pub are_truths : AreTruths formulas now values

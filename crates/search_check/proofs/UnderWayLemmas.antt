@@ -101,7 +101,7 @@ module _ (start now : Assertions) (asides : List Aside) (struck : List (ℕ × �
         let step = step_at_start (Split aside.node aside.place part) is in
         let node : Node = get_or now.formulas.nodes part (Atom true 0) in
         let has : HasNode now.formulas.nodes part node = slice_get-get_or now.formulas.nodes part
-            (Atom true 0) within in
+        (Atom true 0) within in
         let half : Half = record { before = now; struck = struck; aside = record aside { part = part }; node = node } in
         let same : half.aside ≡ aside = ap (λ (p : ℕ). record aside { part = p }) (sym part_is) in
         record {
@@ -255,7 +255,7 @@ module _ (start now : Assertions) (struck : List (ℕ × ℕ)) where
             ((last.half.aside.node, last.half.aside.place) ∷ []) places over places_are last.are;
         way = subst (IsOnTheWay start.formulas (first_branch (held_of start)) last.halves) branch_is
             (takes_up start.formulas (first_branch (held_of start)) last.half last.halves
-                (branch_of now struck) last.way
+            (branch_of now struck) last.way
             (subst (λ (formulas : Formulas). IsStep formulas (branch_of now struck) Lost) same step));
       }
 

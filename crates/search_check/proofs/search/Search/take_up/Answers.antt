@@ -22,7 +22,7 @@ back_to-requires c =
     let rest = c.pop.new.self.items in
     let aside = c.in-Some.aside in
     let last = last_half start now struck c.args.self.now.asides.items rest aside c.in-Some.ensures.items c.requires.1
-        in
+    in
     (last.half.before, its_mark start now struck rest aside last, its_over start now struck rest aside last)
 
 pub returns-in_err-strike-in-Some-clause-more : goal.returns-in_err-strike-in-Some-clause-more
@@ -44,7 +44,7 @@ refute-requires c =
     let rest = c.pop.new.self.items in
     let aside = c.in-Some.aside in
     let last = last_half start now struck c.args.self.now.asides.items rest aside c.in-Some.ensures.items c.requires.1
-        in
+    in
     back_part start now struck rest aside last c.back_to.new.self
     (c.back_to.ensures last.half.before (its_mark start now struck rest aside last)
     (its_over start now struck rest aside last))
@@ -73,7 +73,7 @@ returns-in-Some-clause-ok c start searching step =
     (c.back_to.ensures last.half.before (its_mark start now struck rest aside last)
     (its_over start now struck rest aside last))
     c.refute.new.self c.strike.new.struck.items c.refute.ensures.more c.in_ok-refute-in-Some.ensures.ok
-        c.in_ok-strike-in-Some.ensures
+    c.in_ok-strike-in-Some.ensures
     step (same_formulas start now c.args.self.now.asides.items struck searching)
 
 pub returns-in-Some-clause-more : goal.returns-in-Some-clause-more
