@@ -6,3 +6,4 @@ pub mod OneAnswer
 pub mod Reached
 pub mod Exits
 pub mod Steps
+pub mod RefutedLaws

@@ -11,3 +11,4 @@ pub mod Headline
 pub mod WritesError
 pub mod Reply
 pub mod RunLaws
+pub mod Refuted

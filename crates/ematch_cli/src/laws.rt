@@ -2,11 +2,12 @@
 ghost use Rattle.std.specs.Prelude.{◌≡◌, ℕ, true, false, List};
 ghost use Rattle.em_outside.specs.declared.limits.Limits.{Limits};
 ghost use Rattle.ematch_cli.specs.Output.{Answer, BeginsWith, IsOutput, IsOutputSoFar, IsFrontOf};
+ghost use Rattle.ematch_cli.specs.Refuted.{UnsatIsRight};
 ghost use Rattle.ematch_cli.specs.RunLaws.{RunLaws};
 ghost use Rattle.em_words.specs.declared.task.Task.{Task};
 
-use formula_assert::laws::ground_law;
-use search_laws::laws::one_verdict_law;
+use formula_assert::laws::{exactly_law, ground_law};
+use search_laws::laws::{one_verdict_law, unsat_law};
 use smt_commands::laws::session_law;
 
 /// The laws of the crates below that a run stands on.
@@ -34,4 +35,13 @@ pub fn front_law()
         → IsFrontOf task limits false bytes front → IsOutputSoFar task limits bytes answer → BeginsWith front answer.bytes }
 {
     run_law();
+}
+
+/// Where a check is answered by `unsat`, no finite assignment satisfies all that is asserted.
+pub fn unsat_is_right()
+    ensures { UnsatIsRight }
+{
+    run_law();
+    exactly_law();
+    unsat_law();
 }

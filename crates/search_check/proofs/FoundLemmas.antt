@@ -1,5 +1,6 @@
 -- What is found at a disjunction.
-use Rattle.std.proofs.Common.{◌≡◌, ◌≢◌, ℕ, ◌<◌, List, length, slice_get, Some, All, Contains, sym, ap, subst, ◌∙◌, arith}
+use Rattle.std.proofs.Common.{◌≡◌, ◌≢◌, ℕ, ◌<◌, List, length, slice_get, Some, All, Contains, sym, ap, subst, ◌∙◌}
+use Rattle.std.proofs.Common.{arith}
 use Rattle.std.proofs.lemmas.Option.{same_Some, slice_get_within, get_or_from_slice_get}
 use Rattle.std.proofs.lemmas.List.Elements.{All-weaker}
 use Rattle.formula_table.specs.declared.node.Node.{Node}
@@ -33,8 +34,11 @@ yes_part formulas branch {parts = parts} has (formulas_hold.Holds.literal {n} {n
     absurd (subst (IsYesLeaf (known_in branch) (live_in formulas branch)) (one_node formulas.nodes n at has) leaf)
 yes_part formulas branch {parts = parts} has (formulas_hold.Holds.every {n} {parts = ps} at each) =
     absurd (and_or ps parts (one_node formulas.nodes n at has))
-yes_part formulas branch {parts = parts} has (formulas_hold.Holds.some {n} {part} {parts = ps} at within given) =
-    (part, subst (λ (xs : List ℕ). Contains xs part) (same_ors ps parts (one_node formulas.nodes n at has)) within, given)
+yes_part formulas branch {parts = parts} has (formulas_hold.Holds.some {n} {part} {parts = ps} at within given) = (
+  part,
+  subst (λ (xs : List ℕ). Contains xs part) (same_ors ps parts (one_node formulas.nodes n at has)) within,
+  given,
+)
 
 -- a node that is no disjunction is settled
 pub settled_else : (formulas : Formulas) (branch : Branch) (n : ℕ) →
@@ -88,7 +92,12 @@ module _ (formulas : Formulas) (branch : Branch) (n : ℕ) (parts : List ℕ) (v
   -- nothing is left over
   pub found_empty : ((place part : ℕ) → place < length parts → IsLeftOver formulas branch n parts place part → ⊥) →
       IsFound formulas branch n Empty
-  found_empty none = (parts, is_or, λ place part left. none place part (slice_get_within parts place part left.at_place) left)
+  found_empty none = (
+    parts,
+    is_or,
+    λ place part left. none place part
+        (slice_get_within parts place part left.at_place) left,
+  )
 
   module _ (place part : ℕ) (left : IsLeftOver formulas branch n parts place part) where
     -- something is left over
@@ -101,7 +110,11 @@ module _ (formulas : Formulas) (branch : Branch) (n : ℕ) (parts : List ℕ) (v
     found_settled given =
         let one = yes_part formulas branch has ((truths.yes n within_nodes).0 given) in (
           not_empty,
-          λ others other. (one.0, subst (λ (ps : List ℕ). Contains ps one.0) (sym (its_parts others other)) one.1, one.2),
+          λ others other. (
+            one.0,
+            subst (λ (ps : List ℕ). Contains ps one.0) (sym (its_parts others other)) one.1,
+            one.2,
+          ),
         )
 
     module _ (not_yes : value_at values n ≢ Yes) where
@@ -139,7 +152,8 @@ module _ (formulas : Formulas) (branch : Branch) (n : ℕ) (parts : List ℕ) (v
         Contains branch.held.asserted part → IsNoUnit formulas branch n
     no_unit_asserted only old q unit =
         let here : IsLeftOver formulas branch n parts unit.place q =
-        subst (λ (ps : List ℕ). IsLeftOver formulas branch n ps unit.place q) (its_parts unit.parts unit.is_or) unit.left in
+        subst (λ (ps : List ℕ). IsLeftOver formulas branch n ps unit.place q)
+        (its_parts unit.parts unit.is_or) unit.left in
         let at : unit.place ≡ place = only unit.place q here in
         let same : q ≡ part =
         same_Some q part (sym here.at_place ∙ ap (slice_get parts) at ∙ left.at_place) in
@@ -150,7 +164,8 @@ module _ (formulas : Formulas) (branch : Branch) (n : ℕ) (parts : List ℕ) (v
         IsNoUnit formulas branch n
     no_unit_more next next_part after there q unit =
         let same = its_parts unit.parts unit.is_or in
-        let one = unit.only place part (subst (λ (ps : List ℕ). IsLeftOver formulas branch n ps place part) (sym same) left) in
+        let one = unit.only place part (subst (λ (ps : List ℕ). IsLeftOver formulas branch n ps place part)
+        (sym same) left) in
         let other = unit.only next next_part
         (subst (λ (ps : List ℕ). IsLeftOver formulas branch n ps next next_part) (sym same) there) in
         omega (arith, one, other, after)

@@ -1,5 +1,6 @@
 -- Places left over, one after another.
-use Rattle.std.proofs.Common.{◌≡◌, ℕ, ◌+◌, ◌<◌, Bool, true, false, List, slice_get, Some, refl, sym, subst, ◌∙◌, arith, below_more}
+use Rattle.std.proofs.Common.{◌≡◌, ℕ, ◌+◌, ◌<◌, Bool, true, false, List, slice_get, Some, refl, sym, subst, ◌∙◌}
+use Rattle.std.proofs.Common.{arith, below_more}
 use Rattle.std.proofs.lemmas.Option.{same_Some}
 use Rattle.formula_truth.specs.declared.truth.Truth.{Truth}
 use Rattle.search_check.specs.declared.left.Left.{Left}

@@ -7,3 +7,4 @@ pub mod StepLemmas
 pub mod KeptLemmas
 pub mod WayLemmas
 pub mod UnderWayLemmas
+pub mod TellLemmas

@@ -13,7 +13,8 @@ module _ {X : Type 0} where
   contains_later y x xs c = Contains-append_right (y ∷ []) xs x c
 
 -- pairs are those of their first and second parts
-pub zip_parts : (pairs : List (ℕ × ℕ)) → zip (map (λ (pair : ℕ × ℕ). pair.0) pairs) (map (λ (pair : ℕ × ℕ). pair.1) pairs) ≡ pairs
+pub zip_parts : (pairs : List (ℕ × ℕ)) → zip (map (λ (pair : ℕ × ℕ). pair.0) pairs)
+    (map (λ (pair : ℕ × ℕ). pair.1) pairs) ≡ pairs
 zip_parts [] = refl
 zip_parts (pair ∷ pairs) = ap (λ (rest : List (ℕ × ℕ)). pair ∷ rest) (zip_parts pairs)
 

@@ -1,5 +1,6 @@
 -- The next step, formula by formula.
-use Rattle.std.proofs.Common.{◌≡◌, ℕ, zero, suc, ◌+◌, ◌<◌, List, length, slice_get, Some, None, sym, ap, subst, arith, below_more}
+use Rattle.std.proofs.Common.{◌≡◌, ℕ, zero, suc, ◌+◌, ◌<◌, List, length, slice_get, Some, None, sym, ap, subst, arith}
+use Rattle.std.proofs.Common.{below_more}
 use Rattle.std.proofs.lemmas.Option.{same_Some, slice_get_within, get_or_from_slice_get}
 use Rattle.graph_meaning.specs.Same.{Same}
 use Rattle.graph_meaning.specs.Standing.{differs_of}
@@ -16,7 +17,8 @@ use Rattle.search_check.specs.declared.found.Found.TheVariants.{Settled, Empty, 
 use Rattle.search_check.specs.declared.step.Step.{Step}
 use Rattle.search_check.specs.declared.step.Step.TheVariants.{Lost, Assert, Split, WayOut}
 use Rattle.search_check.specs.Found.{IsEmpty, IsNoUnit, IsNotOpen, IsFound}
-use Rattle.search_check.specs.Steps.{HasNoConflict, HasNoUnit, IsStep, EachBelow, IsNotEmpty, IsStepBelow, then_found, IsWithin}
+use Rattle.search_check.specs.Steps.{HasNoConflict, HasNoUnit, IsStep, EachBelow, IsNotEmpty, IsStepBelow, then_found}
+use Rattle.search_check.specs.Steps.{IsWithin}
 use Rattle.search_check.proofs.ListLemmas.{contains_head, contains_later}
 
 -- equal pairs have equal parts
@@ -94,7 +96,8 @@ module _ (formulas : Formulas) (branch : Branch) where
       by (suc k) at = closing.Conflict.difference (
         k,
         slice_get_within (differs_of branch.held.graph.standing) k (clash.left, clash.right) at,
-        get_or_from_slice_get (differs_of branch.held.graph.standing) k (clash.left, clash.right) (clash.left, clash.right) at,
+        get_or_from_slice_get (differs_of branch.held.graph.standing) k (clash.left, clash.right)
+            (clash.left, clash.right) at,
       )
           is.2
 

@@ -1,5 +1,6 @@
 -- The values of all formulas, where no forall stands.
-use Rattle.std.proofs.Common.{◌≡◌, ℕ, ◌<◌, ◌↔◌, List, [], ◌∷◌, length, map, slice_get, Option, Some, None, All, refl, sym, ap, subst, ◌∙◌, arith}
+use Rattle.std.proofs.Common.{◌≡◌, ℕ, ◌<◌, ◌↔◌, List, [], ◌∷◌, length, map, slice_get, Option, Some, None, All, refl}
+use Rattle.std.proofs.Common.{sym, ap, subst, ◌∙◌, arith}
 use Rattle.std.specs.List.{zip}
 use Rattle.std.specs.Option.{option_map_or}
 use Rattle.std.proofs.lemmas.Option.{slice_get-get_or}
@@ -36,7 +37,8 @@ ends_right (pair ∷ pairs) bound ends = All-cons (λ term. term < bound) pair.1
     (ends pair.0 pair.1 (contains_head pair pairs)).1
     (ends_right pairs bound (λ s t among. ends s t (contains_later pair (s, t) pairs among)))
 
-same_lengths : (pairs : List (ℕ × ℕ)) → length (map (λ (pair : ℕ × ℕ). pair.0) pairs) ≡ length (map (λ (pair : ℕ × ℕ). pair.1) pairs)
+same_lengths : (pairs : List (ℕ × ℕ)) → length (map (λ (pair : ℕ × ℕ). pair.0) pairs) ≡ length
+    (map (λ (pair : ℕ × ℕ). pair.1) pairs)
 same_lengths [] = refl
 same_lengths (pair ∷ pairs) = let rest = same_lengths pairs in omega (arith, rest)
 
@@ -78,7 +80,8 @@ no_foralls nodes not (n ∷ ns) = let none = no_forall (slice_get nodes n) (not 
 pub none_live : (formulas : Formulas) → IsFormulaTable formulas → formulas.foralls ≡ [] → (branch : Branch) →
     live_in formulas branch ≡ []
 none_live formulas table ground branch = no_foralls formulas.nodes
-    (λ n forall at. let within = table.foralls_stand n forall at in let none = ap length ground in omega (arith, within, none))
+    (λ n forall at. let within = table.foralls_stand n forall at in let none = ap length ground in omega
+    (arith, within, none))
     branch.held.asserted
 
 -- the value of a formula tells whether it is Yes or No
@@ -105,15 +108,19 @@ module _ (formulas : Formulas) (now : Held) (facts : Facts) (values : List Truth
       ap (λ (differs : List (ℕ × ℕ)). record (known_of now.graph.standing) { differs = differs }) of.differs in
       let live_is : facts.live ≡ live_in formulas (first_branch now) =
       of.live ∙ sym (none_live formulas table ground (first_branch now)) in
-      subst (λ (known : Known). HasValue known (live_in formulas (first_branch now)) formulas.nodes n (value_at values n)) known_is
-      (subst (λ (live : List ℕ). HasValue (known_with now.graph.standing facts) live formulas.nodes n (value_at values n)) live_is
+      subst (λ (known : Known). HasValue known (live_in formulas (first_branch now)) formulas.nodes n
+      (value_at values n)) known_is
+      (subst (λ (live : List ℕ). HasValue (known_with now.graph.standing facts) live formulas.nodes n
+      (value_at values n)) live_is
       (first.each n (value_at values n) (slice_get-get_or values n Unset within)))
 
   pub are_truths : AreTruths formulas now values
   are_truths = record {
     so_many = first.so_many;
-    yes = λ n below. tells_yes (known_of now.graph.standing) (live_in formulas (first_branch now)) formulas.nodes n one_value
+    yes = λ n below. tells_yes (known_of now.graph.standing)
+        (live_in formulas (first_branch now)) formulas.nodes n one_value
         (value_at values n) (has_value n below);
-    no = λ n below. tells_no (known_of now.graph.standing) (live_in formulas (first_branch now)) formulas.nodes n one_value
+    no = λ n below. tells_no (known_of now.graph.standing)
+        (live_in formulas (first_branch now)) formulas.nodes n one_value
         (value_at values n) (has_value n below);
   }

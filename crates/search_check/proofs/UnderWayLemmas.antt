@@ -1,5 +1,6 @@
 -- A search goes on.
-use Rattle.std.proofs.Common.{◌≡◌, ℕ, ◌<◌, true, List, [], ◌∷◌, ◌++◌, length, take, reverse, get_or, slice_get, Some, refl, sym, ap, ap₂, subst, ◌∙◌, append_assoc, append-nil, arith}
+use Rattle.std.proofs.Common.{◌≡◌, ℕ, ◌<◌, true, List, [], ◌∷◌, ◌++◌, length, take, reverse, get_or, slice_get, Some}
+use Rattle.std.proofs.Common.{refl, sym, ap, ap₂, subst, ◌∙◌, append_assoc, append-nil, arith}
 use Rattle.std.proofs.lemmas.List.{length-append, reverse-append, reverse-reverse, take-append-le, take_all}
 use Rattle.std.proofs.lemmas.Option.{slice_get-get_or, slice_get_within}
 use Rattle.graph_meaning.specs.State.{replay}
@@ -57,7 +58,8 @@ pub begins : (start : Assertions) (asides : List Aside) (struck : List (ℕ × �
 begins start asides struck no_aside none_struck = record {
   halves = [];
   are = (no_aside, over_same start);
-  way = subst (λ (places : List (ℕ × ℕ)). IsOnTheWay start.formulas (first_branch (held_of start)) [] (branch_of start places))
+  way = subst (λ (places : List (ℕ × ℕ)). IsOnTheWay start.formulas (first_branch (held_of start)) []
+      (branch_of start places))
       (sym none_struck) (starts start.formulas (first_branch (held_of start)));
 }
 
@@ -77,13 +79,15 @@ module _ (start now : Assertions) (asides : List Aside) (struck : List (ℕ × �
   module _ (next : Assertions) (part : ℕ) (over : HoldsMoreOver now next)
       (asserts : Asserts now.formulas part (held_of now) (held_of next)) where
     asserts_at_start : Asserts start.formulas part (held_of now) (held_of next)
-    asserts_at_start = subst (λ (formulas : Formulas). Asserts formulas part (held_of now) (held_of next)) same_formulas asserts
+    asserts_at_start = subst (λ (formulas : Formulas). Asserts formulas part (held_of now) (held_of next))
+        same_formulas asserts
 
     -- the part of the first unit was asserted
     pub unit_asserted : IsStep now.formulas (branch_of now struck) (Assert part) → IsUnderWay start next asides struck
     unit_asserted is = let step = step_at_start (Assert part) is in record {
       halves = under_way.halves;
-      are = halves_more start now next under_way.halves asides struck [] struck over (sym (append-nil struck)) under_way.are;
+      are = halves_more start now next under_way.halves asides struck [] struck over
+          (sym (append-nil struck)) under_way.are;
       way = steps start.formulas (first_branch (held_of start)) under_way.halves (branch_of now struck) under_way.way
           (held_of next) step.1 part step.0 step.2 asserts_at_start;
     }
@@ -96,7 +100,8 @@ module _ (start now : Assertions) (asides : List Aside) (struck : List (ℕ × �
     split_asserted aside more part_is is mark so_many within put =
         let step = step_at_start (Split aside.node aside.place part) is in
         let node : Node = get_or now.formulas.nodes part (Atom true 0) in
-        let has : HasNode now.formulas.nodes part node = slice_get-get_or now.formulas.nodes part (Atom true 0) within in
+        let has : HasNode now.formulas.nodes part node = slice_get-get_or now.formulas.nodes part
+        (Atom true 0) within in
         let half : Half = record { before = now; struck = struck; aside = record aside { part = part }; node = node } in
         let same : half.aside ≡ aside = ap (λ (p : ℕ). record aside { part = p }) (sym part_is) in
         record {
@@ -153,7 +158,8 @@ module _ {X : Type 0} (xs ys : List X) (x y : X) (same : xs ++ x ∷ [] ≡ ys +
       sym (reverse-reverse xs) ∙ ap reverse turned ∙ reverse-reverse ys
 
 -- the split that was put aside last is under way, and the others are behind it
-pub record IsLastHalf (start now : Assertions) (rest : List Aside) (aside : Aside) (struck : List (ℕ × ℕ)) : Type 0 where
+pub record IsLastHalf (start now : Assertions) (rest : List Aside) (aside : Aside)
+    (struck : List (ℕ × ℕ)) : Type 0 where
   pub half : Half
   pub halves : List Half
   pub aside_is : half.aside ≡ aside
@@ -211,7 +217,8 @@ module _ (start now : Assertions) (struck : List (ℕ × ℕ)) where
     before_over = halves_over start last.half.before last.halves rest last.half.struck last.are
 
     its_node : HasNode last.half.before.formulas.nodes aside.part last.half.node
-    its_node = subst (λ (a : Aside). HasNode last.half.before.formulas.nodes a.part last.half.node) last.aside_is last.halfway.has
+    its_node = subst (λ (a : Aside). HasNode last.half.before.formulas.nodes a.part last.half.node) last.aside_is
+        last.halfway.has
 
     -- its part stands
     pub its_part : aside.part < length last.half.before.formulas.nodes
@@ -247,7 +254,8 @@ module _ (start now : Assertions) (struck : List (ℕ × ℕ)) where
         are = halves_more start last.half.before next last.halves rest last.half.struck
             ((last.half.aside.node, last.half.aside.place) ∷ []) places over places_are last.are;
         way = subst (IsOnTheWay start.formulas (first_branch (held_of start)) last.halves) branch_is
-            (takes_up start.formulas (first_branch (held_of start)) last.half last.halves (branch_of now struck) last.way
+            (takes_up start.formulas (first_branch (held_of start)) last.half last.halves
+            (branch_of now struck) last.way
             (subst (λ (formulas : Formulas). IsStep formulas (branch_of now struck) Lost) same step));
       }
 

@@ -1,10 +1,12 @@
 -- What the answer of a search says.
-use Rattle.std.specs.Prelude.{◌≡◌}
+use Rattle.std.specs.Prelude.{◌≡◌, ℕ, Bool, Contains}
+use Rattle.graph_meaning.specs.Standing.{terms_of}
 use Rattle.formula_table.specs.Formulas.{Formulas}
 use Rattle.formula_assert.specs.Held.{Held}
 use Rattle.search_laws.specs.Branch.{Branch, first_branch}
 use Rattle.search_laws.specs.Verdict.{Verdict, unsat, sat}
-use Rattle.search_laws.specs.Kept.{AreLeaders}
+use Rattle.search_laws.specs.Assignment.{Assignment, IsAssignment, Satisfies, AreRefuted}
+use Rattle.search_laws.specs.Kept.{AreLeaders, KeepsSorts, kept_assignment}
 use Rattle.search_check.specs.declared.outcome.Kept.{Kept}
 use Rattle.search_check.specs.declared.outcome.Outcome.{Outcome}
 use Rattle.search_check.specs.declared.outcome.Outcome.TheVariants.{Unsat, Sat}
@@ -18,3 +20,16 @@ abbrev pub IsVerdictOf : Formulas → Held → Outcome → Type 0
 IsVerdictOf formulas now Unsat = Verdict formulas (first_branch now) unsat
 IsVerdictOf formulas now (Sat kept) = (last : Branch) × Verdict formulas (first_branch now) (sat last) ×
     AreLeaders last.held.graph.standing kept.leaders × (last.held.asserted ≡ kept.asserted)
+
+-- the assignment that gives each term its leader, and each truth but that of true the number of false
+abbrev pub kept_of_terms : Held → (ℕ → Bool) → Kept → Assignment
+kept_of_terms now predicates kept = kept_assignment predicates (terms_of now.graph.standing) kept.leaders
+
+-- What the answer tells of finite assignments: none satisfies what is asserted; or, whichever symbols are the
+-- predicates, if the sorts are kept to, the leaders that were kept make one that does.
+abbrev pub TellsOfAssignments : Formulas → Held → Outcome → Type 0
+TellsOfAssignments formulas now Unsat = AreRefuted (terms_of now.graph.standing) formulas.nodes now.asserted
+TellsOfAssignments formulas now (Sat kept) = (predicates : ℕ → Bool) →
+    KeepsSorts predicates (terms_of now.graph.standing) formulas.nodes →
+    IsAssignment (kept_of_terms now predicates kept) × ((n : ℕ) → Contains now.asserted n →
+    Satisfies (kept_of_terms now predicates kept) (terms_of now.graph.standing) formulas.nodes n)

@@ -1,13 +1,15 @@
 //! Decides what stands.
 ghost use Rattle.std.specs.Prelude.{◌≡◌, [], IfOk};
 ghost use Rattle.formula_assert.specs.Assertions.{held_of};
+ghost use Rattle.formula_assert.specs.Exactly.{HoldsExactly};
 ghost use Rattle.formula_assert.specs.InLevel.{HoldsMoreOver};
-ghost use Rattle.search_check.specs.Verdicts.{IsVerdictOf};
+ghost use Rattle.search_check.specs.Verdicts.{IsVerdictOf, TellsOfAssignments};
 
 use crate::outcome::Outcome;
 use crate::search::Search;
 use formula_assert::AssertionStack;
 use graph_terms::Memory;
+use search_laws::laws::{sat_law, unsat_law};
 use std::alloc::Global;
 
 /// Searches what the stack holds. More is held after it.
@@ -27,12 +29,19 @@ fn search(alloc: Global, stack: &mut AssertionStack) -> Result<Outcome, Memory>
 
 /// Decides what the stack holds by the plain search. Whatever is answered, the stack is as before.
 ///
+/// Where what is held is exactly what the asserted nodes stand for, `Unsat` tells that no finite assignment satisfies what
+/// is asserted, and the leaders that come with `Sat` make one that does.
+///
 /// `Memory` comes where memory is refused, or a count would have passed the greatest number of its type.
 pub fn check(alloc: Global, stack: &mut AssertionStack) -> Result<Outcome, Memory>
     requires ground { stack.old.formulas.foralls ≡ [] }
     ensures verdict { IfOk result (IsVerdictOf stack.old.formulas (held_of stack.old)) }
+    ensures tells { IfOk result (λ outcome. HoldsExactly stack.old.formulas (held_of stack.old) → TellsOfAssignments stack.old.formulas (held_of stack.old) outcome) }
     ensures same { stack.new ≡ stack.old }
 {
+    let _rules = stack.depth();
+    unsat_law();
+    sat_law();
     let mark = stack.mark();
     let outcome = search(alloc, stack);
     stack.back_to(mark);

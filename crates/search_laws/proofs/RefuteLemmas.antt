@@ -2,6 +2,7 @@
 use Rattle.std.proofs.Common.{ℕ, Contains, refl}
 use Rattle.graph_meaning.specs.declared.op.Op.{Op}
 use Rattle.graph_meaning.specs.declared.op.Op.TheVariants.{Add, Merge, Differ, Live, Push, Pop}
+use Rattle.graph_terms.specs.Terms.{IsTable}
 use Rattle.graph_meaning.specs.Standing.{terms_of}
 use Rattle.formula_table.specs.Formulas.{Formulas}
 use Rattle.formula_assert.specs.Held.{Held}
@@ -9,7 +10,6 @@ use Rattle.formula_assert.specs.Exactly.{HoldsExactly, operations_in}
 use Rattle.search_laws.specs.Branch.{first_branch}
 use Rattle.search_laws.specs.Verdict.{unsat, Verdict}
 use Rattle.search_laws.specs.Assignment.{AreRefuted}
-use Rattle.search_laws.specs.Laws.{IsInOrder}
 use Rattle.search_laws.proofs.Places.{contains_none}
 use Rattle.search_laws.proofs.Worlds.{World, IsTrueIn, IsTrueOp, operations_true}
 use Rattle.search_laws.proofs.FitLemmas.{no_world}
@@ -28,16 +28,16 @@ standing_true formulas world now exactly truths (Live trigger) c = tt
 standing_true formulas world now exactly truths Push c = tt
 standing_true formulas world now exactly truths Pop c = tt
 
-pub refuted : (formulas : Formulas) (now : Held) → IsInOrder formulas now →
-    Verdict formulas (first_branch now) unsat → AreRefuted (terms_of now.graph.standing) formulas.nodes now.asserted
-refuted formulas now order ends given is satisfied =
+pub refuted : (formulas : Formulas) (now : Held) → IsTable (terms_of now.graph.standing) →
+    HoldsExactly formulas now → Verdict formulas (first_branch now) unsat → AreRefuted (terms_of now.graph.standing) formulas.nodes now.asserted
+refuted formulas now table exactly ends given is satisfied =
     let rows = terms_of now.graph.standing in
     let truths : (n : ℕ) → Contains now.asserted n → IsTrueIn formulas.nodes (world_of given rows) n =
-    λ n c. true_in given rows order.terms is formulas.nodes n (satisfied n c) in
+    λ n c. true_in given rows table is formulas.nodes n (satisfied n c) in
     no_world formulas (world_of given rows) ends refl (record {
       held = record {
-        is_world = is_world given rows order.terms is;
-        operations = standing_true formulas (world_of given rows) now order.exactly truths;
+        is_world = is_world given rows table is;
+        operations = standing_true formulas (world_of given rows) now exactly truths;
         asserted = truths;
       };
       struck = λ n place c. contains_none (n, place) c;

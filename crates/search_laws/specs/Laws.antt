@@ -22,10 +22,12 @@ abbrev pub HasOneVerdict : Type 0
 HasOneVerdict = (formulas : Formulas) (branch : Branch) (one other : Ending) → Verdict formulas branch one →
     Verdict formulas branch other → one ≡ other
 
--- where there is no way out, no finite assignment satisfies what is asserted
+-- where there is no way out, no finite assignment satisfies what is asserted, if the terms are a table and what is held
+-- is exactly what the asserted formulas stand for
 abbrev pub UnsatRefutes : Type 0
-UnsatRefutes = (formulas : Formulas) (now : Held) → IsInOrder formulas now →
-    Verdict formulas (first_branch now) unsat → AreRefuted (terms_of now.graph.standing) formulas.nodes now.asserted
+UnsatRefutes = (formulas : Formulas) (now : Held) → IsTable (terms_of now.graph.standing) →
+    HoldsExactly formulas now → Verdict formulas (first_branch now) unsat →
+    AreRefuted (terms_of now.graph.standing) formulas.nodes now.asserted
 
 -- The assignment of a way out is one, and it satisfies what is asserted there, whichever symbols are the predicates,
 -- if the sorts are kept to; what was asserted at the start is among it.

@@ -22,12 +22,14 @@ returns-in_err-step-clause-more c start searching =
 
 pub returns-in-Lost-clause-ok : goal.returns-in-Lost-clause-ok
 returns-in-Lost-clause-ok c = ok_then c.take_up.result c.take_up.ensures.ok (λ outcome follows start searching.
-    follows start searching (step_there c.args.stack.now c.args.self.now.struck.items c.deref.result.now c.in_ok-step.step
+    follows start searching (step_there c.args.stack.now c.args.self.now.struck.items c.deref.result.now
+    c.in_ok-step.step
     Lost c.deref.ensures.value c.in-Lost.is c.in_ok-step.ensures.step))
 
 pub returns-in-Assert-clause-ok : goal.returns-in-Assert-clause-ok
 returns-in-Assert-clause-ok c = ok_then c.assert.result c.assert.ensures.ok (λ outcome follows start searching.
-    follows start searching (step_there c.args.stack.now c.args.self.now.struck.items c.deref.result.now c.in_ok-step.step
+    follows start searching (step_there c.args.stack.now c.args.self.now.struck.items c.deref.result.now
+    c.in_ok-step.step
     (Assert c.in-Assert.part) c.deref.ensures.value c.in-Assert.is c.in_ok-step.ensures.step))
 
 pub returns-in-Assert-clause-more : goal.returns-in-Assert-clause-more
@@ -37,8 +39,10 @@ returns-in-Assert-clause-more c start searching = over_both start c.args.stack.n
 
 pub returns-in-Split-clause-ok : goal.returns-in-Split-clause-ok
 returns-in-Split-clause-ok c = ok_then c.split.result c.split.ensures.ok (λ outcome follows start searching.
-    follows start searching (step_there c.args.stack.now c.args.self.now.struck.items c.deref.result.now c.in_ok-step.step
-    (Split c.in-Split.node c.in-Split.place c.in-Split.part) c.deref.ensures.value c.in-Split.is c.in_ok-step.ensures.step))
+    follows start searching (step_there c.args.stack.now c.args.self.now.struck.items c.deref.result.now
+    c.in_ok-step.step
+    (Split c.in-Split.node c.in-Split.place c.in-Split.part) c.deref.ensures.value c.in-Split.is
+    c.in_ok-step.ensures.step))
 
 pub returns-in-Split-clause-more : goal.returns-in-Split-clause-more
 returns-in-Split-clause-more c start searching = over_both start c.args.stack.now c.split.new.stack
@@ -47,7 +51,8 @@ returns-in-Split-clause-more c start searching = over_both start c.args.stack.no
 
 pub returns-in-WayOut-clause-ok : goal.returns-in-WayOut-clause-ok
 returns-in-WayOut-clause-ok c = ok_then c.way_out.result c.way_out.ensures (λ outcome follows start searching.
-    follows start searching (step_there c.args.stack.now c.args.self.now.struck.items c.deref.result.now c.in_ok-step.step
+    follows start searching (step_there c.args.stack.now c.args.self.now.struck.items c.deref.result.now
+    c.in_ok-step.step
     WayOut c.deref.ensures.value c.in-WayOut.is c.in_ok-step.ensures.step))
 
 pub returns-in-WayOut-clause-more : goal.returns-in-WayOut-clause-more
