@@ -68,6 +68,6 @@ unsat_line (sat last) e = absurd (lines_differ e)
 pub unsat_right : RunLaws → StaysExact → UnsatRefutes → UnsatIsRight
 unsat_right law exact refutes limits now comes response =
     refutes now.assertions.formulas (held_of now.assertions) (right_where Solve limits law exact comes).tables.terms
-        (exact_where Solve limits law exact comes).present
-        (subst (Verdict now.assertions.formulas (first_branch (held_of now.assertions)))
-            (unsat_line response.ending response.is) response.verdict)
+    (exact_where Solve limits law exact comes).present
+    (subst (Verdict now.assertions.formulas (first_branch (held_of now.assertions)))
+    (unsat_line response.ending response.is) response.verdict)
