@@ -48,7 +48,7 @@ not_both : {P : Type 0} {A E : Type 0} (result : Result A E) (one : A) (other : 
 not_both result one other is also = absurd (cc)
 
 -- what holds before a change and is kept by it holds after so many
-repeated_keeps : (P : Assertions → Type 0) (change : Assertions → Assertions) → ((now : Assertions) → P now → P (change now)) → (n : ℕ) (now : Assertions) → P now → P (repeated n change now)
+pub repeated_keeps : (P : Assertions → Type 0) (change : Assertions → Assertions) → ((now : Assertions) → P now → P (change now)) → (n : ℕ) (now : Assertions) → P now → P (repeated n change now)
 repeated_keeps P change keeps zero now is = is
 repeated_keeps P change keeps (suc n) now is = repeated_keeps P change keeps n (change now) (keeps now is)
 
