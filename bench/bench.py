@@ -4,11 +4,12 @@
     bench/bench.py PROGRAM [--n N] [--only WORD] [--seconds S]
 
 PROGRAM is the built program `ematch`. Each kind of script is made for n, 2n and 4n, and given to `PROGRAM matches` on
-standard input. A line for each run gives the seconds that it took by the clock, the most memory that it held, how many
-matches it listed in all, and how many times longer it took than the run before: about 2 where the time grows with n,
-about 4 where it grows with the square of n. Where `z3` or `cvc5` are installed (`apt-get install z3 cvc5`), they are given
+standard input, or to `PROGRAM solve` where it has no forall and asks for verdicts. A line for each run gives the seconds
+that it took by the clock, the most memory that it held, how many matches it listed in all or how many verdicts of each
+kind it gave, and how many times longer it took than the run before: about 2 where the time grows with n, about 4 where it
+grows with the square of n. Where `z3` or `cvc5` are installed (`apt-get install z3 cvc5`), they are given
 the same script, and their seconds stand last, with how many times the faster one's the program took; they instantiate the
-foralls and list nothing. The script measures and judges nothing.
+foralls and list nothing, and where a verdict of theirs is another, the line says so. The script judges nothing else.
 """
 
 import argparse
@@ -199,25 +200,96 @@ def many_triggers(n):
     return script.check()
 
 
+def propositions(script, name, count):
+    for k in range(count):
+        script.add(f"(declare-const {name}{k} Bool)")
+
+
+def implications(n):
+    """A chain of n implications, its first premise, and that its last conclusion is false."""
+    script = Script([], [])
+    propositions(script, "p", n + 1)
+    script.add("(assert p0)")
+    for k in range(n):
+        script.add(f"(assert (=> p{k} p{k + 1}))")
+    script.add(f"(assert (not p{n}))")
+    return script.check()
+
+
+def merges(n):
+    """n constants under towers of f, merged in pairs, and a disequation of two towers that are equal by that."""
+    script = Script([("f", 1)], constants("c", n))
+    for k in range(n):
+        script.fact(f"(f (f c{k}))")
+    for k in range(0, n - 1, 2):
+        script.equal(f"c{k}", f"c{k + 1}")
+    script.add("(assert (not (= (f (f c0)) (f (f c1)))))")
+    return script.check()
+
+
+def scopes(n):
+    """One rule, and n levels with a goal and a check each: every other goal follows from the rule."""
+    script = Script([], [])
+    propositions(script, "p", 3)
+    script.add("(assert (=> p0 p1))")
+    script.add("(assert p0)")
+    for k in range(n):
+        script.add("(push 1)")
+        script.add(f"(assert (not p{1 + k % 2}))")
+        script.check()
+        script.add("(pop 1)")
+    return script.lines
+
+
+def wide_clause(n):
+    """A disjunction of n atoms, all of which but the last are false."""
+    script = Script([], [])
+    propositions(script, "p", n)
+    script.add(f"(assert (or {' '.join(f'p{k}' for k in range(n))}))")
+    for k in range(n - 1):
+        script.add(f"(assert (not p{k}))")
+    return script.check()
+
+
+def splits(n):
+    """So many independent splits that they have n ends, each of which is lost."""
+    count = max(1, n.bit_length() - 1)
+    script = Script([], [])
+    for name in ("a", "b", "z"):
+        propositions(script, name, count)
+    for k in range(count):
+        script.add(f"(assert (or a{k} b{k}))")
+    script.add("(assert (or (and z0 (not z0)) (and z0 (not z0) z0)))")
+    return script.check()
+
+
+# each kind, the word of its task, and what makes it
 KINDS = [
-    ("collapse", collapse),
-    ("levels", levels),
-    ("heap", heap),
-    ("fronts", fronts),
-    ("joins", joins),
-    ("chain", chain),
-    ("towers", towers),
-    ("large class", large_class),
-    ("facts", facts),
-    ("many foralls", many_foralls),
-    ("wide let", wide_let),
-    ("nested lets", nested_lets),
-    ("many triggers", many_triggers),
+    ("collapse", "matches", collapse),
+    ("levels", "matches", levels),
+    ("heap", "matches", heap),
+    ("fronts", "matches", fronts),
+    ("joins", "matches", joins),
+    ("chain", "matches", chain),
+    ("towers", "matches", towers),
+    ("large class", "matches", large_class),
+    ("facts", "matches", facts),
+    ("many foralls", "matches", many_foralls),
+    ("wide let", "matches", wide_let),
+    ("nested lets", "matches", nested_lets),
+    ("many triggers", "matches", many_triggers),
+    ("implications", "solve", implications),
+    ("merges", "solve", merges),
+    ("ground facts", "solve", facts),
+    ("scopes", "solve", scopes),
+    ("wide clause", "solve", wide_clause),
+    ("splits", "solve", splits),
 ]
 
 
 def run(command, script, seconds):
-    """The seconds, the most memory in MiB, the matches listed and the status of one run; None for what is not known."""
+    """The seconds, the most memory in MiB, the matches listed, the verdicts in order and the status of one run; None for
+    what is not known."""
     with tempfile.TemporaryFile() as given, tempfile.TemporaryFile() as told:
         given.write(script)
         given.seek(0)
@@ -232,15 +304,18 @@ def run(command, script, seconds):
                 child.kill()
                 os.wait4(child.pid, 0)
                 child.returncode = -9
-                return took, None, None, "cut off"
+                return took, None, None, None, "cut off"
             time.sleep(min(0.01, took / 20))
         child.returncode = os.waitstatus_to_exitcode(status)
         told.seek(0)
         matches = 0
+        verdicts = []
         for line in told:
             if line.startswith(b"forall "):
                 matches += int(line.rsplit(b" ", 1)[1])
-        return took, usage.ru_maxrss / 1024, matches, child.returncode
+            if line.strip() in (b"sat", b"unsat", b"unknown"):
+                verdicts.append(line.strip().decode())
+        return took, usage.ru_maxrss / 1024, matches, verdicts, child.returncode
 
 
 PEERS = [
@@ -254,22 +329,31 @@ def peers():
     return [(name, [path] + words) for name, words in PEERS if (path := shutil.which(name)) is not None]
 
 
-def measure(program, others, kind, make, n, seconds):
+def summary(task, matches, verdicts):
+    """What a run told, in a few words."""
+    if task == "matches":
+        return f"{matches:>9} matches"
+    return f"{verdicts.count('sat'):>5} sat {verdicts.count('unsat'):>5} unsat"
+
+
+def measure(program, others, kind, task, make, n, seconds):
     before = None
     for size in (n, 2 * n, 4 * n):
         script = ("\n".join(make(size)) + "\n").encode()
-        took, memory, matches, status = run([program, "matches"], script, seconds)
+        took, memory, matches, verdicts, status = run([program, task], script, seconds)
         cells = [f"{kind:<13}", f"{size:>8}", f"{took:>9.3f} s"]
         cells.append("" if memory is None else f"{memory:>8.1f} MiB")
-        cells.append("" if matches is None else f"{matches:>9} matches")
+        cells.append("" if matches is None else summary(task, matches, verdicts))
         cells.append("" if before is None else f"x {took / before:.2f}")
         if status != 0:
             cells.append(f"status {status}")
         fastest = None
         for name, command in others:
             other = run(command, script, seconds)
-            cells.append(f"{name} {other[0]:.3f} s" if other[3] == 0 else f"{name} {other[3]}")
-            if other[3] == 0 and (fastest is None or other[0] < fastest):
+            cells.append(f"{name} {other[0]:.3f} s" if other[4] == 0 else f"{name} {other[4]}")
+            if task == "solve" and None not in (verdicts, other[3]) and verdicts != other[3]:
+                cells.append(f"OTHER VERDICTS than {name}")
+            if other[4] == 0 and (fastest is None or other[0] < fastest):
                 fastest = other[0]
         if fastest is not None:
             cells.append(f"{took / fastest:.2f} of the faster peer")
@@ -283,16 +367,16 @@ def main():
     parser = argparse.ArgumentParser(description="How time and memory of the program grow with a script.")
     parser.add_argument("program", help="the built program")
     parser.add_argument("--n", type=int, default=1000, help="the size of the first script of each kind (1000)")
-    parser.add_argument("--only", help="the one kind to run: " + ", ".join(kind for kind, _ in KINDS))
+    parser.add_argument("--only", help="the one kind to run: " + ", ".join(kind for kind, _, _ in KINDS))
     parser.add_argument("--seconds", type=float, default=120, help="a longer run is cut off (120)")
     words = parser.parse_args()
     program = os.path.abspath(words.program)
     if not os.access(program, os.X_OK):
         sys.exit(f"{program} is no program")
     others = peers()
-    for kind, make in KINDS:
+    for kind, task, make in KINDS:
         if words.only in (None, kind):
-            measure(program, others, kind, make, words.n, words.seconds)
+            measure(program, others, kind, task, make, words.n, words.seconds)
 
 
 if __name__ == "__main__":
