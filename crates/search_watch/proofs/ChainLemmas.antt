@@ -21,7 +21,7 @@ set-set [] i x y = refl
 set-set (z ∷ zs) zero x y = refl
 set-set (z ∷ zs) (suc i) x y = ap (λ ws. z ∷ ws) (set-set zs i x y)
 
-set-same : {A : Type 0} (xs : List A) (i : ℕ) (d : A) → slice_set xs i (slice_index_or xs i d) ≡ xs
+pub set-same : {A : Type 0} (xs : List A) (i : ℕ) (d : A) → slice_set xs i (slice_index_or xs i d) ≡ xs
 set-same [] i d = refl
 set-same (z ∷ zs) zero d = refl
 set-same (z ∷ zs) (suc i) d = ap (λ ws. z ∷ ws) (set-same zs i d)
@@ -67,10 +67,10 @@ source_len s now moved slot more within is = elim (same_or_not (slot_at s moved)
   | inr other ↦ omega (arith, ap (λ (c : Chained). length (chain_at c moved)) is ∙ ap length (get-set_other s.lists slot (slot_at s moved) (list_at s slot ++ more) [] other))
 ]
 
-set-back : {A : Type 0} (xs : List A) (i : ℕ) (x d : A) → slice_set (slice_set xs i x) i (slice_index_or xs i d) ≡ xs
+pub set-back : {A : Type 0} (xs : List A) (i : ℕ) (x d : A) → slice_set (slice_set xs i x) i (slice_index_or xs i d) ≡ xs
 set-back xs i x d = set-set xs i x (slice_index_or xs i d) ∙ set-same xs i d
 
-take_front : (xs ys : List ℕ) → take (length xs) (xs ++ ys) ≡ xs
+pub take_front : (xs ys : List ℕ) → take (length xs) (xs ++ ys) ≡ xs
 take_front [] ys = refl
 take_front (x ∷ xs) ys = ap (λ zs. x ∷ zs) (take_front xs ys)
 

@@ -3,6 +3,8 @@ pub mod StepLemmas
 pub mod LawLemmas
 pub mod ChainLemmas
 pub mod CoverLemmas
+pub mod NotedLemmas
+pub mod DifferLemmas
 pub mod WatchLemmas
 pub mod FoundLemmas
 pub mod ServeLemmas

@@ -51,6 +51,14 @@ with_list chains slot list = record chains { lists = slice_set chains.lists slot
 abbrev pub grown : Chained → ℕ → ℕ → Chained
 grown chains slot item = with_list chains slot (list_at chains slot ++ item ∷ [])
 
+-- an item comes last in the chain of the leader
+abbrev pub with_item : Chained → ℕ → ℕ → Chained
+with_item chains leader item = grown chains (slot_at chains leader) item
+
+-- an item comes last in the chain of the one leader, and then in that of the other
+abbrev pub with_both : Chained → ℕ → ℕ → ℕ → Chained
+with_both chains left right item = with_item (with_item chains left item) right item
+
 -- the chain of one leader is put behind that of the other
 abbrev pub appended : Chained → ℕ → ℕ → Chained
 appended chains moved kept = with_list chains (slot_at chains kept) (chain_at chains kept ++ chain_at chains moved)

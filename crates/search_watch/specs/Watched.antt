@@ -1,8 +1,8 @@
 -- Literals and differences by the classes of their ends.
-use Rattle.std.specs.Prelude.{◌≡◌, ℕ, ◌<◌, Bool, List, take, Some, slice_get, Contains}
+use Rattle.std.specs.Prelude.{◌≡◌, ℕ, ◌<◌, Bool, List, [], ◌∷◌, ◌++◌, take, Some, slice_get, Contains}
 use Rattle.graph_meaning.specs.declared.union.Union.{Union}
 use Rattle.graph_meaning.specs.declared.done.Done.{Done}
-use Rattle.graph_meaning.specs.Unions.{Generated, Leads}
+use Rattle.graph_meaning.specs.Unions.{Generated, IsLeast, Leads}
 use Rattle.search_watch.specs.declared.watch.Watch.{Watch}
 use Rattle.graph_meaning.specs.Unions.{WasSame}
 use Rattle.search_watch.specs.Looked.{moved_of}
@@ -20,16 +20,24 @@ pub record World : Type 0 where
 abbrev pub classes : World → List Union → ℕ → ℕ → Type 0
 classes world unions = Generated (WasSame world.standing world.terms) unions
 
+-- the leader is the least term of the class of the term
+abbrev pub LeadsTerm : World → List Union → ℕ → ℕ → Type 0
+LeadsTerm world unions leader term = IsLeast (classes world unions) leader × classes world unions leader term
+
+-- one more difference has this number and these ends
+abbrev pub with_difference : World → ℕ → ℕ → ℕ → World
+with_difference world d a b = record world { differ_ends = world.differ_ends ++ (d, a) ∷ (d, b) ∷ [] }
+
 -- each term has a list
 abbrev pub HaveChains : ℕ → Chained → Type 0
 HaveChains terms chains = (term : ℕ) → term < terms → HasChain chains term
 
 -- the chain of each leader holds what its class's terms end
 pub record IsWatched (world : World) (unions : List Union) (watch : Watch) : Type 0 where
-  pub literals_stand : HaveChains world.terms watch.literals
-  pub differs_stand : HaveChains world.terms watch.differs
-  pub literals : Covers (classes world unions) world.literal_ends watch.literals
-  pub differs : Covers (classes world unions) world.differ_ends watch.differs
+  pub literals_stand : HaveChains world.terms watch.literals.chains
+  pub differs_stand : HaveChains world.terms watch.differs.chains
+  pub literals : Covers (classes world unions) world.literal_ends watch.literals.chains
+  pub differs : Covers (classes world unions) world.differ_ends watch.differs.chains
 
 -- nothing was lost
 abbrev pub Gathers : List ℕ → List ℕ → Type 0

@@ -1,4 +1,5 @@
 //! Laws on which literals are looked at.
+ghost use Rattle.search_watch.specs.Back.{GoesBackFurther};
 ghost use Rattle.search_watch.specs.Covers.{JoinIsUndone, JoinKeepsCovering, JoinKeepsItems};
 ghost use Rattle.search_watch.specs.Serves.{CoveringServes};
 ghost use Rattle.search_watch.specs.Found.{FoundClashes, FoundSuffices, UnionsAreLed};
@@ -42,6 +43,11 @@ pub fn found_suffices()
 /// Two notes undo what joined two chains.
 pub fn join_is_undone()
     ensures { JoinIsUndone }
+{}
+
+/// A watch can go back to itself, and as far as what it can go back to could.
+pub fn can_go_back_further()
+    ensures { GoesBackFurther }
 {}
 
 /// The chains after the unions are those by which the graph after them is evaluated.

@@ -1,20 +1,24 @@
 //! Which literals and differences are looked at after unions of classes.
-ghost use Rattle.std.specs.Prelude.{◌≡◌, ◌<◌, ◌⊎◌, ◌+◌, ◌++◌, ◌∷◌, [], length, take, slice_get, Some, OnOk};
+ghost use Rattle.std.specs.Prelude.{◌≡◌, ◌<◌, ◌⊎◌, ◌+◌, ◌++◌, ◌∷◌, ℕ, List, [], length, take, slice_get, Some, OnOk, OnErr};
 ghost use Rattle.graph_meaning.specs.declared.union.Union.{Union as UnionOf};
-ghost use Rattle.search_watch.specs.Chains.{chain_at, HasChain};
-ghost use Rattle.search_watch.specs.Watched.{World, IsWatched, AreLed, Gathers, LooksAtUnion, LooksAtUnions};
+ghost use Rattle.search_watch.specs.Chains.{chain_at, HasChain, with_both};
+ghost use Rattle.search_watch.specs.Watched.{World, IsWatched, LeadsTerm, with_difference, AreLed, Gathers, LooksAtUnion, LooksAtUnions};
+ghost use Rattle.search_watch.specs.Back.{IsMark, CanGoBack, no_watch};
+ghost use Rattle.search_watch.specs.declared.watch.Watch.{Watch as WatchOf};
 
 use crate::chains::Chains;
+use crate::mark::Mark;
+use crate::noted_chains::NotedChains;
 use graph_classes::Unions;
-use std::alloc::AllocError;
+use std::alloc::{AllocError, Global};
 
-/// For each class the literals that its terms end, and the differences.
+/// For each class the literals that its terms end, and the differences, with the trails of their changes.
 #[derive(Drop)]
 pub struct Watch {
     /// For each leader the literals that its terms end.
-    pub literals: Chains,
+    pub literals: NotedChains,
     /// For each leader the differences that its terms end.
-    pub differs: Chains,
+    pub differs: NotedChains,
 }
 
 /// Puts the items of a leader's chain last.
@@ -31,12 +35,12 @@ fn gather(chains: &Chains, leader: u32, found: &mut Vec<u32>) -> Result<(), Allo
 
 /// The first of two leaders, if it has not more than the other, and the other; else the other way round.
 fn sides(watch: &Watch, left: u32, right: u32) -> (u32, u32)
-    requires left { HasChain watch.now.literals left × HasChain watch.now.differs left }
-    requires right { HasChain watch.now.literals right × HasChain watch.now.differs right }
+    requires left { HasChain watch.now.literals.chains left × HasChain watch.now.differs.chains left }
+    requires right { HasChain watch.now.literals.chains right × HasChain watch.now.differs.chains right }
     ensures { ((result.0 ≡ left) × (result.1 ≡ right)) ⊎ ((result.0 ≡ right) × (result.1 ≡ left)) }
 {
-    let of_left = watch.literals.len(left) as u64 + watch.differs.len(left) as u64;
-    let of_right = watch.literals.len(right) as u64 + watch.differs.len(right) as u64;
+    let of_left = watch.literals.chains.len(left) as u64 + watch.differs.chains.len(left) as u64;
+    let of_right = watch.literals.chains.len(right) as u64 + watch.differs.chains.len(right) as u64;
     if of_left <= of_right {
         (left, right)
     } else {
@@ -45,7 +49,18 @@ fn sides(watch: &Watch, left: u32, right: u32) -> (u32, u32)
 }
 
 impl Watch {
-    /// Looks at the literals and the differences of the class that moves at a union, and joins the chains.
+    /// No terms, and nothing to take back. It takes no memory.
+    pub fn new(alloc: Global) -> Watch
+        ensures { result ≡ no_watch }
+    {
+        Watch {
+            literals: NotedChains::new(alloc),
+            differs: NotedChains::new(alloc),
+        }
+    }
+
+    /// Looks at the literals and the differences of the class that moves at a union, and joins the chains. A refusal is want
+    /// of memory or of room, and a part may have been done then.
     fn after_union(
         &mut self,
         unions: &Unions,
@@ -61,18 +76,39 @@ impl Watch {
         ensures looks { OnOk result ((union : UnionOf) → slice_get unions.now k ≡ Some union → LooksAtUnion world (take k unions.now) union literals.new.items differs.new.items) }
         ensures literals { OnOk result (Gathers literals.old.items literals.new.items) }
         ensures differs { OnOk result (Gathers differs.old.items differs.new.items) }
+        ensures back { CanGoBack self.old self.new }
     {
         let union = unions.get(k);
         let (moved, kept) = sides(self, union.left, union.right);
-        gather(&self.literals, moved, literals)?;
-        gather(&self.differs, moved, differs)?;
+        gather(&self.literals.chains, moved, literals)?;
+        gather(&self.differs.chains, moved, differs)?;
         self.literals.join(moved, kept)?;
         self.differs.join(moved, kept)?;
         Ok(())
     }
 
+    /// Does what is done after each of the unions. A refusal is want of memory or of room, and a part may have been done then.
+    fn try_unions(
+        &mut self,
+        unions: &Unions,
+        literals: &mut Vec<u32>,
+        differs: &mut Vec<u32>,
+    ) -> Result<(), AllocError>
+        ghost world: { World }
+        requires watched { IsWatched world [] self.old }
+        requires led { AreLed world unions.now }
+        ensures watched { OnOk result (IsWatched world unions.now self.new) }
+        ensures looks { OnOk result (LooksAtUnions world unions.now (length unions.now) literals.new.items differs.new.items) }
+        ensures back { CanGoBack self.old self.new }
+    {
+        for k in 0..unions.len() {
+            self.after_union(unions, k, literals, differs)?;
+        }
+        Ok(())
+    }
+
     /// Puts the literals and the differences with an end in a class that moves at one of the unions behind what was found,
-    /// and joins the chains. A refusal is want of memory or of room, and a part may have been done then.
+    /// and joins the chains. A refusal is want of memory or of room, and the watch is as before then.
     pub fn after_unions(
         &mut self,
         unions: &Unions,
@@ -84,10 +120,69 @@ impl Watch {
         requires led { AreLed world unions.now }
         ensures watched { OnOk result (IsWatched world unions.now self.new) }
         ensures looks { OnOk result (LooksAtUnions world unions.now (length unions.now) literals.new.items differs.new.items) }
+        ensures err { OnErr result (self.new ≡ self.old) }
+        ensures back { CanGoBack self.old self.new }
     {
-        for k in 0..unions.len() {
-            self.after_union(unions, k, literals, differs)?;
+        let mark = self.mark();
+        match self.try_unions(unions, literals, differs) {
+            Ok(()) => Ok(()),
+            Err(fault) => {
+                self.back_to(mark);
+                Err(fault)
+            }
         }
-        Ok(())
+    }
+
+    /// Puts a difference last in the chains of two leaders. A refusal is want of memory or of room, and a part may have
+    /// been done then.
+    fn try_difference(&mut self, d: u32, left: u32, right: u32) -> Result<(), AllocError>
+        requires left { HasChain self.old.differs.chains left }
+        requires right { HasChain self.old.differs.chains right }
+        ensures differs { OnOk result (self.new.differs.chains ≡ with_both self.old.differs.chains left right d) }
+        ensures literals { self.new.literals ≡ self.old.literals }
+        ensures back { CanGoBack self.old self.new }
+    {
+        self.differs.put(left, d)?;
+        self.differs.put(right, d)
+    }
+
+    /// Puts one more difference last in the chains of the leaders of its two ends. A refusal is want of memory or of room,
+    /// and the watch is as before then.
+    pub fn add_difference(&mut self, d: u32, left: u32, right: u32) -> Result<(), AllocError>
+        requires left { HasChain self.old.differs.chains left }
+        requires right { HasChain self.old.differs.chains right }
+        ensures differs { OnOk result (self.new.differs.chains ≡ with_both self.old.differs.chains left right d) }
+        ensures literals { self.new.literals ≡ self.old.literals }
+        ensures watched { OnOk result ((world : World) (unions : List UnionOf) (a b : ℕ) → IsWatched world unions self.old → LeadsTerm world unions left a → LeadsTerm world unions right b → IsWatched (with_difference world d a b) unions self.new) }
+        ensures err { OnErr result (self.new ≡ self.old) }
+        ensures back { CanGoBack self.old self.new }
+    {
+        let mark = self.mark();
+        match self.try_difference(d, left, right) {
+            Ok(()) => Ok(()),
+            Err(fault) => {
+                self.back_to(mark);
+                Err(fault)
+            }
+        }
+    }
+
+    /// How many changes were noted, to go back to. It takes no memory.
+    pub fn mark(&self) -> Mark
+        ensures { IsMark self.now result }
+    {
+        Mark {
+            literals: self.literals.trail.mark(),
+            differs: self.differs.trail.mark(),
+        }
+    }
+
+    /// Goes back to the watch as it was at a mark. It takes no memory.
+    pub fn back_to(&mut self, mark: Mark)
+        requires { (before : WatchOf) × IsMark before mark × CanGoBack before self.old }
+        ensures { (before : WatchOf) → IsMark before mark → CanGoBack before self.old → self.new ≡ before }
+    {
+        self.literals.back_to(mark.literals);
+        self.differs.back_to(mark.differs);
     }
 }

@@ -21,14 +21,14 @@ returns-clause-watched g c =
     let next = take_next unions c.args.k union c.get-union.ensures in
     let now = λ (s : Chained). Covers (Generated (WasSame w.standing w.terms) (take c.args.k unions ++ union ∷ [])) w.literal_ends s in
     let now' = λ (s : Chained). Covers (Generated (WasSame w.standing w.terms) (take c.args.k unions ++ union ∷ [])) w.differ_ends s in
-    let of = λ (us : List Union). Covers (Generated (WasSame w.standing w.terms) us) w.literal_ends c.join.new.self in
-    let of' = λ (us : List Union). Covers (Generated (WasSame w.standing w.terms) us) w.differ_ends c.join-2.new.self in
+    let of = λ (us : List Union). Covers (Generated (WasSame w.standing w.terms) us) w.literal_ends c.join.new.self.chains in
+    let of' = λ (us : List Union). Covers (Generated (WasSame w.standing w.terms) us) w.differ_ends c.join-2.new.self.chains in
     let have = λ (s : Chained). HaveChains w.terms s in
     record {
-      literals_stand = subst have (sym c.in_ok-join.ensures.ok) (chains_stand w.terms c.args.self.now.literals _ _ (watched.literals_stand _ stand.1) watched.literals_stand);
-      differs_stand = subst have (sym c.in_ok-join-2.ensures.ok) (chains_stand w.terms c.args.self.now.differs _ _ (watched.differs_stand _ stand.1) watched.differs_stand);
-      literals = subst of (sym next) (subst now (sym c.in_ok-join.ensures.ok) (join_covers w.standing w.terms (take c.args.k unions) union w.literal_ends c.args.self.now.literals _ _ watched.literals led.leads (led.left, led.right) sides (watched.literals_stand _ stand.0) (watched.literals_stand _ stand.1)));
-      differs = subst of' (sym next) (subst now' (sym c.in_ok-join-2.ensures.ok) (join_covers w.standing w.terms (take c.args.k unions) union w.differ_ends c.args.self.now.differs _ _ watched.differs led.leads (led.left, led.right) sides (watched.differs_stand _ stand.0) (watched.differs_stand _ stand.1)));
+      literals_stand = subst have (sym c.in_ok-join.ensures.ok) (chains_stand w.terms c.args.self.now.literals.chains _ _ (watched.literals_stand _ stand.1) watched.literals_stand);
+      differs_stand = subst have (sym c.in_ok-join-2.ensures.ok) (chains_stand w.terms c.args.self.now.differs.chains _ _ (watched.differs_stand _ stand.1) watched.differs_stand);
+      literals = subst of (sym next) (subst now (sym c.in_ok-join.ensures.ok) (join_covers w.standing w.terms (take c.args.k unions) union w.literal_ends c.args.self.now.literals.chains _ _ watched.literals led.leads (led.left, led.right) sides (watched.literals_stand _ stand.0) (watched.literals_stand _ stand.1)));
+      differs = subst of' (sym next) (subst now' (sym c.in_ok-join-2.ensures.ok) (join_covers w.standing w.terms (take c.args.k unions) union w.differ_ends c.args.self.now.differs.chains _ _ watched.differs led.leads (led.left, led.right) sides (watched.differs_stand _ stand.0) (watched.differs_stand _ stand.1)));
     }
 
 pub returns-clause-looks : goal.returns-clause-looks
@@ -41,8 +41,8 @@ returns-clause-looks g c = λ other at.
     let sides = c.sides-moved.ensures in
     let least = moved_least (classes w (take c.args.k unions)) union _ _ led.leads sides in
     let looks = looks_at w (take c.args.k unions) union _ _ c.gather.new.found.items c.gather-2.new.found.items sides
-    (finds (classes w (take c.args.k unions)) w.literal_ends c.args.self.now.literals _ c.args.literals.now.items c.gather.new.found.items watched.literals least c.in_ok-gather.ensures)
-    (finds (classes w (take c.args.k unions)) w.differ_ends c.args.self.now.differs _ c.args.differs.now.items c.gather-2.new.found.items watched.differs least c.in_ok-gather-2.ensures) in
+    (finds (classes w (take c.args.k unions)) w.literal_ends c.args.self.now.literals.chains _ c.args.literals.now.items c.gather.new.found.items watched.literals least c.in_ok-gather.ensures)
+    (finds (classes w (take c.args.k unions)) w.differ_ends c.args.self.now.differs.chains _ c.args.differs.now.items c.gather-2.new.found.items watched.differs least c.in_ok-gather-2.ensures) in
     subst (λ (u : Union). LooksAtUnion w (take c.args.k unions) u c.gather.new.found.items c.gather-2.new.found.items) (same_union unions c.args.k union other c.get-union.ensures at) looks
 
 pub returns-clause-literals : goal.returns-clause-literals

@@ -1,0 +1,7 @@
+use Rattle.search_watch.proofs.DifferLemmas.{difference_watched}
+use Rattle.search_watch.proofs.watch.Watch.add_difference.Goals as goal
+
+pub returns-in-Ok-clause-watched : goal.returns-in-Ok-clause-watched
+returns-in-Ok-clause-watched c = λ world unions a b watched leads_left leads_right.
+    difference_watched world unions c.args.self.now c.try_difference.new.self c.args.d a b c.args.left c.args.right c.in-Ok.ensures.literals c.in-Ok.ensures.differs
+    c.requires.left c.requires.right watched leads_left leads_right
