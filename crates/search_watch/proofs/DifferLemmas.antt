@@ -1,5 +1,5 @@
 -- One more difference, put under the leaders of both its ends.
-use Rattle.std.proofs.Common.{◌≡◌, ◌⊎◌, inl, inr, ℕ, List, [], ◌∷◌, ◌++◌, slice_index_or, slice_set, Contains, sym, ◌∙◌, ap, subst, arith}
+use Rattle.std.proofs.Common.{◌≡◌, ◌<◌, ◌⊎◌, inl, inr, ℕ, List, [], ◌∷◌, ◌++◌, slice_index_or, slice_set, Contains, sym, ◌∙◌, ap, subst, arith}
 use Rattle.std.proofs.lemmas.List.Elements.{Contains-append_left, Contains-append_cases, Contains-push, Contains-push_cases}
 use Rattle.std.proofs.Math.ListN.{length-set}
 use Rattle.graph_meaning.specs.declared.union.Union.{Union}
@@ -7,7 +7,7 @@ use Rattle.graph_meaning.specs.Unions.{IsLeast, turned, joined}
 use Rattle.search_watch.specs.declared.watch.Watch.{Watch}
 use Rattle.search_watch.specs.declared.noted_chains.NotedChains.{NotedChains}
 use Rattle.search_watch.specs.Chains.{Chained, HasChain, slot_at, list_at, chain_at, with_item, with_both}
-use Rattle.search_watch.specs.Covers.{Covers}
+use Rattle.search_watch.specs.Covers.{Covers, ItemsBelow}
 use Rattle.search_watch.specs.Watched.{World, IsWatched, LeadsTerm, classes, with_difference}
 use Rattle.search_watch.proofs.ChainLemmas.{get-set_same, get-set_other}
 
@@ -94,3 +94,21 @@ difference_watched world unions old new d a b left right same is has_left has_ri
       literals = subst (λ (n : NotedChains). Covers (classes world unions) world.literal_ends n.chains) (sym same) watched.literals;
       differs = subst (λ (c : Chained). Covers (classes world unions) (world.differ_ends ++ (d, a) ∷ (d, b) ∷ []) c) (sym is) (both_cover world unions s d a b left right watched.differs has_left has_right leads_left leads_right);
     }
+
+-- ---- items stay below their bound
+
+below_item : (s : Chained) (leader item count : ℕ) → HasChain s leader → item < count → ItemsBelow count s → ItemsBelow count (with_item s leader item)
+below_item s leader item count has lt below slot other on = elim (same_or_not slot (slot_at s leader)) [
+  | inl same ↦
+      let here = ap (λ k. slice_index_or (slice_set s.lists (slot_at s leader) (chain_at s leader ++ item ∷ [])) k []) same ∙ get-set_same s.lists (slot_at s leader) (chain_at s leader ++ item ∷ []) [] has.slot_stands in
+      either (Contains-push_cases (chain_at s leader) item other (subst (λ (xs : List ℕ). Contains xs other) here on))
+  | inr apart ↦ below slot other (subst (λ (xs : List ℕ). Contains xs other) (get-set_other s.lists (slot_at s leader) slot (chain_at s leader ++ item ∷ []) [] apart) on)
+]
+  where
+    either : Contains (chain_at s leader) other ⊎ (item ≡ other) → other < count
+    either (inl old) = below (slot_at s leader) other old
+    either (inr is) = omega arith
+
+pub both_below : (s new : Chained) (left right d count : ℕ) → HasChain s left → HasChain s right → new ≡ with_both s left right d → d < count → ItemsBelow count s → ItemsBelow count new
+both_below s new left right d count has_left has_right is lt below =
+    subst (λ (c : Chained). ItemsBelow count c) (sym is) (below_item (with_item s left d) right d count (stands s left d has_left right has_right) lt (below_item s left d count has_left lt below))

@@ -5,10 +5,12 @@ use Rattle.std.proofs.lemmas.List.Elements.{Contains-append_left, Contains-appen
 use Rattle.std.proofs.Math.ListN.{length-set}
 use Rattle.graph_meaning.specs.declared.union.Union.{Union}
 use Rattle.graph_meaning.specs.Unions.{IsLeast, Leads}
+use Rattle.search_watch.specs.declared.watch.Watch.{Watch}
 use Rattle.search_watch.specs.Chains.{Chained, HasChain, slot_at, chain_at, chained}
-use Rattle.search_watch.specs.Covers.{Covers}
-use Rattle.search_watch.specs.Watched.{World, classes, HaveChains, Gathers, Finds, LooksAtUnion, LooksAtUnions}
+use Rattle.search_watch.specs.Covers.{Covers, ItemsBelow}
+use Rattle.search_watch.specs.Watched.{World, classes, HaveChains, Gathers, KeepsItems, Finds, LooksAtUnion, LooksAtUnions}
 use Rattle.search_watch.proofs.ChainLemmas.{get-set_same, get-set_other}
+use Rattle.search_watch.proofs.CoverLemmas.{below_join}
 
 same_or_not : (i j : ℕ) → (i ≡ j) ⊎ (i ≡ j → ⊥)
 same_or_not i j = search arith
@@ -83,3 +85,21 @@ looks_step world unions k literals differs literals' differs' more more' before 
   | inl same ↦ subst (λ (i : ℕ). LooksAtUnion world (take i unions) union literals' differs') (sym same) (here union (ap (slice_get unions) (sym same) ∙ at))
   | inr other ↦ looks_more world (take j unions) union literals differs literals' differs' more more' (before j union (omega arith) at)
 ]
+
+-- ---- items stay below their bound
+
+pub items_none : (watch : Watch) → KeepsItems watch watch
+items_none watch = record { literals = λ count below. below; differs = λ count below. below }
+
+pub items_trans : (a b c : Watch) → KeepsItems a b → KeepsItems b c → KeepsItems a c
+items_trans a b c first second = record {
+  literals = λ count below. second.literals count (first.literals count below);
+  differs = λ count below. second.differs count (first.differs count below);
+}
+
+pub items_joined : (old new : Watch) (moved kept : ℕ) → HasChain old.literals.chains kept → HasChain old.differs.chains kept
+    → new.literals.chains ≡ chained old.literals.chains moved kept → new.differs.chains ≡ chained old.differs.chains moved kept → KeepsItems old new
+items_joined old new moved kept has has' is is' = record {
+  literals = λ count below. subst (λ (s : Chained). ItemsBelow count s) (sym is) (below_join old.literals.chains moved kept count has.slot_stands below);
+  differs = λ count below. subst (λ (s : Chained). ItemsBelow count s) (sym is') (below_join old.differs.chains moved kept count has'.slot_stands below);
+}

@@ -7,7 +7,7 @@ use Rattle.search_watch.specs.declared.watch.Watch.{Watch}
 use Rattle.graph_meaning.specs.Unions.{WasSame}
 use Rattle.search_watch.specs.Looked.{moved_of}
 use Rattle.search_watch.specs.Chains.{Chained, HasChain}
-use Rattle.search_watch.specs.Covers.{Covers}
+use Rattle.search_watch.specs.Covers.{Covers, ItemsBelow}
 
 -- a standing list over so many terms, and what terms end: literals and differences by number
 pub record World : Type 0 where
@@ -38,6 +38,11 @@ pub record IsWatched (world : World) (unions : List Union) (watch : Watch) : Typ
   pub differs_stand : HaveChains world.terms watch.differs.chains
   pub literals : Covers (classes world unions) world.literal_ends watch.literals.chains
   pub differs : Covers (classes world unions) world.differ_ends watch.differs.chains
+
+-- items are below a bound where all were before
+pub record KeepsItems (old new : Watch) : Type 0 where
+  pub literals : (count : ℕ) → ItemsBelow count old.literals.chains → ItemsBelow count new.literals.chains
+  pub differs : (count : ℕ) → ItemsBelow count old.differs.chains → ItemsBelow count new.differs.chains
 
 -- nothing was lost
 abbrev pub Gathers : List ℕ → List ℕ → Type 0

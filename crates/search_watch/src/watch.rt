@@ -2,7 +2,8 @@
 ghost use Rattle.std.specs.Prelude.{◌≡◌, ◌<◌, ◌⊎◌, ◌+◌, ◌++◌, ◌∷◌, ℕ, List, [], length, take, slice_get, Some, OnOk, OnErr};
 ghost use Rattle.graph_meaning.specs.declared.union.Union.{Union as UnionOf};
 ghost use Rattle.search_watch.specs.Chains.{chain_at, HasChain, with_both};
-ghost use Rattle.search_watch.specs.Watched.{World, IsWatched, LeadsTerm, with_difference, AreLed, Gathers, LooksAtUnion, LooksAtUnions};
+ghost use Rattle.search_watch.specs.Covers.{ItemsBelow};
+ghost use Rattle.search_watch.specs.Watched.{World, IsWatched, LeadsTerm, with_difference, AreLed, Gathers, KeepsItems, LooksAtUnion, LooksAtUnions};
 ghost use Rattle.search_watch.specs.Back.{IsMark, CanGoBack, no_watch};
 ghost use Rattle.search_watch.specs.declared.watch.Watch.{Watch as WatchOf};
 
@@ -76,6 +77,7 @@ impl Watch {
         ensures looks { OnOk result ((union : UnionOf) → slice_get unions.now k ≡ Some union → LooksAtUnion world (take k unions.now) union literals.new.items differs.new.items) }
         ensures literals { OnOk result (Gathers literals.old.items literals.new.items) }
         ensures differs { OnOk result (Gathers differs.old.items differs.new.items) }
+        ensures items { OnOk result (KeepsItems self.old self.new) }
         ensures back { CanGoBack self.old self.new }
     {
         let union = unions.get(k);
@@ -99,6 +101,7 @@ impl Watch {
         requires led { AreLed world unions.now }
         ensures watched { OnOk result (IsWatched world unions.now self.new) }
         ensures looks { OnOk result (LooksAtUnions world unions.now (length unions.now) literals.new.items differs.new.items) }
+        ensures items { OnOk result (KeepsItems self.old self.new) }
         ensures back { CanGoBack self.old self.new }
     {
         for k in 0..unions.len() {
@@ -120,6 +123,7 @@ impl Watch {
         requires led { AreLed world unions.now }
         ensures watched { OnOk result (IsWatched world unions.now self.new) }
         ensures looks { OnOk result (LooksAtUnions world unions.now (length unions.now) literals.new.items differs.new.items) }
+        ensures items { OnOk result (KeepsItems self.old self.new) }
         ensures err { OnErr result (self.new ≡ self.old) }
         ensures back { CanGoBack self.old self.new }
     {
@@ -154,6 +158,7 @@ impl Watch {
         ensures differs { OnOk result (self.new.differs.chains ≡ with_both self.old.differs.chains left right d) }
         ensures literals { self.new.literals ≡ self.old.literals }
         ensures watched { OnOk result ((world : World) (unions : List UnionOf) (a b : ℕ) → IsWatched world unions self.old → LeadsTerm world unions left a → LeadsTerm world unions right b → IsWatched (with_difference world d a b) unions self.new) }
+        ensures items { OnOk result ((count : ℕ) → d < count → ItemsBelow count self.old.differs.chains → ItemsBelow count self.new.differs.chains) }
         ensures err { OnErr result (self.new ≡ self.old) }
         ensures back { CanGoBack self.old self.new }
     {

@@ -6,7 +6,7 @@ use Rattle.search_watch.specs.Chains.{Chained}
 use Rattle.search_watch.specs.Covers.{Covers}
 use Rattle.search_watch.specs.Watched.{classes, HaveChains, LooksAtUnion}
 use Rattle.search_watch.proofs.CoverLemmas.{join_covers}
-use Rattle.search_watch.proofs.WatchLemmas.{chains_stand, gathers, finds, looks_at, moved_least, both_stand, take_next, same_union}
+use Rattle.search_watch.proofs.WatchLemmas.{chains_stand, gathers, finds, looks_at, moved_least, both_stand, take_next, same_union, items_joined}
 use Rattle.search_watch.proofs.watch.Watch.after_union.Goals as goal
 
 pub returns-clause-watched : goal.returns-clause-watched
@@ -47,3 +47,11 @@ returns-clause-looks g c = λ other at.
 
 pub returns-clause-literals : goal.returns-clause-literals
 returns-clause-literals g c = gathers c.args.literals.now.items c.gather.new.found.items _ c.in_ok-gather.ensures
+
+pub returns-clause-items : goal.returns-clause-items
+returns-clause-items g c =
+    let watched = c.requires.1.0 in
+    let led = c.requires.1.1 c.args.k c.get-union.result.now c.get-union.ensures in
+    let stand = both_stand g.world'.terms c.get-union.result.now _ _ led.left led.right c.sides-moved.ensures in
+    items_joined c.args.self.now (record { literals = c.join.new.self; differs = c.join-2.new.self }) _ _ (watched.literals_stand _ stand.1) (watched.differs_stand _ stand.1)
+    c.in_ok-join.ensures.ok c.in_ok-join-2.ensures.ok

@@ -1,4 +1,4 @@
-use Rattle.search_watch.proofs.WatchLemmas.{looks_step}
+use Rattle.search_watch.proofs.WatchLemmas.{items_trans, looks_step}
 use Rattle.search_watch.proofs.NotedLemmas.{back_trans}
 use Rattle.search_watch.proofs.watch.Watch.try_unions.Goals as goal
 
@@ -7,6 +7,7 @@ loop-k-preserved g c = record {
   watched = c.in_ok-after_union.ensures.watched;
   looks = looks_step g.world' c.args.unions.now c.loop-k.k c.loop-k.literals.items c.loop-k.differs.items c.after_union.new.literals.items c.after_union.new.differs.items
       c.in_ok-after_union.ensures.literals c.in_ok-after_union.ensures.differs c.loop-k.invariant.looks c.in_ok-after_union.ensures.looks;
+  items = items_trans c.args.self.now c.loop-k.self c.after_union.new.self c.loop-k.invariant.items c.in_ok-after_union.ensures.items;
   back = back_trans c.args.self.now c.loop-k.self c.after_union.new.self c.loop-k.invariant.back c.in_ok-after_union.ensures.back;
 }
 

@@ -1,5 +1,5 @@
 use Rattle.std.proofs.Common.{take}
-use Rattle.search_watch.specs.Watched.{IsWatched, LooksAtUnions}
+use Rattle.search_watch.specs.Watched.{IsWatched, KeepsItems, LooksAtUnions}
 use Rattle.search_watch.specs.Back.{CanGoBack}
 use Rattle.search_watch.proofs.watch.Watch.try_unions.Given as goal
 
@@ -10,5 +10,6 @@ abbrev pub invariant-loop-k : goal.invariant-loop-k
 invariant-loop-k g l = record {
   watched : IsWatched g.world' (take l.k l.unions) l.self;
   looks : LooksAtUnions g.world' l.unions l.k l.literals.items l.differs.items;
+  items : KeepsItems l.fn.self l.self;
   back : CanGoBack l.fn.self l.self;
 }
