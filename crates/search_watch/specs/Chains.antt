@@ -1,8 +1,8 @@
 -- For each leader a list of numbers.
-use Rattle.std.specs.Prelude.{◌≡◌, ℕ, ◌<◌, ◌^◌, min, List, [], ◌∷◌, ◌++◌, length, take}
+use Rattle.std.specs.Prelude.{◌≡◌, ℕ, ◌-◌, ◌<◌, ◌^◌, min, List, [], ◌∷◌, ◌++◌, length, take}
 use Rattle.std.specs.Prelude.{slice_index, slice_index_or, slice_set}
 use Rattle.search_watch.specs.declared.link.Link.{Link}
-use Rattle.search_watch.specs.declared.link.Link.TheVariants.{Grown, Led}
+use Rattle.search_watch.specs.declared.link.Link.TheVariants.{Added, Grown, Led}
 
 -- the slot of each term, and the list of each slot
 pub record Chained : Type 0 where
@@ -70,8 +70,16 @@ chained chains moved kept = record {
   lists = slice_set chains.lists (slot_at chains kept) (chain_at chains kept ++ chain_at chains moved);
 }
 
+-- without the last term, and without its list
+abbrev pub without_term : Chained → Chained
+without_term chains = record {
+  slots = take (length chains.slots - 1) chains.slots;
+  lists = take (length chains.lists - 1) chains.lists;
+}
+
 -- the chains before a change
 abbrev pub before_link : Chained → Link → Chained
+before_link chains Added = without_term chains
 before_link chains (Grown slot len) = with_list chains slot (take len (list_at chains slot))
 before_link chains (Led leader slot) = with_slot chains leader slot
 

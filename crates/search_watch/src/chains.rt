@@ -1,6 +1,6 @@
 //! For each class the numbers of what its terms end.
 ghost use Rattle.std.specs.Prelude.{◌≡◌, ℕ, ◌<◌, ◌≤◌, ◌↔◌, length, slice_index, slice_set, take, ◌⊎◌, [], ◌∷◌, ◌++◌, IsTrue, OnOk, OnErr, IfOk};
-ghost use Rattle.search_watch.specs.Chains.{Chained, chain_at, slot_at, list_at, appended, chained, no_chains, with_term, with_list, with_slot, grown, HasChain};
+ghost use Rattle.search_watch.specs.Chains.{Chained, chain_at, slot_at, list_at, appended, chained, no_chains, with_term, without_term, with_list, with_slot, grown, HasChain};
 
 use crate::link::Link;
 use graph_trail::Undoable;
@@ -45,6 +45,7 @@ impl Undoable for Chains {
 
     fn undo(&mut self, note: Link) {
         match note {
+            Link::Added => self.drop_last(),
             Link::Grown { slot, len } => {
                 if let Some(list) = self.lists.get_mut(slot as usize) {
                     list.truncate(len);
@@ -106,6 +107,14 @@ impl Chains {
                 Err(fault)
             }
         }
+    }
+
+    /// Takes the last term away, and its list, if there is one. It takes no memory.
+    fn drop_last(&mut self)
+        ensures { self.new ≡ without_term self.old }
+    {
+        let _slot = self.slots.pop();
+        let _list = self.lists.pop();
     }
 
     /// Whether the leader has a chain.

@@ -2,12 +2,12 @@
 ghost use Rattle.std.specs.Prelude.{◌≡◌, ◌++◌, ◌∷◌, [], length, min, OnOk, OnErr};
 ghost use Rattle.search_watch.specs.declared.link.Link.TheVariants.{Grown, Led};
 ghost use Rattle.search_watch.specs.declared.noted_chains.NotedChains.{NotedChains as NotedChainsOf};
-ghost use Rattle.search_watch.specs.Chains.{HasChain, chain_at, chained, with_item, slot_at};
+ghost use Rattle.search_watch.specs.Chains.{HasChain, chain_at, chained, with_item, with_term, slot_at};
 ghost use Rattle.search_watch.specs.Noted.{IsNotedSince, no_noted};
 
 use crate::chains::Chains;
 use crate::link::Link;
-use graph_trail::Trail;
+use graph_trail::{Trail, Undoable};
 use std::alloc::{AllocError, Global};
 
 /// Chains with the trail of their changes.
@@ -39,6 +39,23 @@ impl NotedChains {
         match self.trail.note(link) {
             Ok(()) => Ok(()),
             Err(_refused) => Err(AllocError),
+        }
+    }
+
+    /// One more term, which leads an empty list of its own. A refusal is want of memory or of room, and all is as before
+    /// then.
+    pub fn add_term(&mut self, alloc: Global) -> Result<(), AllocError>
+        ensures ok { OnOk result (self.new.chains ≡ with_term self.old.chains) }
+        ensures err { OnErr result (self.new ≡ self.old) }
+        ensures noted { IsNotedSince self.old self.new }
+    {
+        self.chains.add_term(alloc)?;
+        match self.trail.note(Link::Added) {
+            Ok(()) => Ok(()),
+            Err(refused) => {
+                self.chains.undo(refused.note);
+                Err(AllocError)
+            }
         }
     }
 

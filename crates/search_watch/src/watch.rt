@@ -1,7 +1,7 @@
 //! Which literals and differences are looked at after unions of classes.
 ghost use Rattle.std.specs.Prelude.{◌≡◌, ◌<◌, ◌⊎◌, ◌+◌, ◌++◌, ◌∷◌, ℕ, List, [], length, take, slice_get, Some, OnOk, OnErr};
 ghost use Rattle.graph_meaning.specs.declared.union.Union.{Union as UnionOf};
-ghost use Rattle.search_watch.specs.Chains.{chain_at, HasChain, with_both};
+ghost use Rattle.search_watch.specs.Chains.{chain_at, HasChain, with_both, with_term};
 ghost use Rattle.search_watch.specs.Covers.{ItemsBelow};
 ghost use Rattle.search_watch.specs.Watched.{World, IsWatched, LeadsTerm, with_difference, AreLed, Gathers, KeepsItems, LooksAtUnion, LooksAtUnions};
 ghost use Rattle.search_watch.specs.Back.{IsMark, CanGoBack, no_watch};
@@ -57,6 +57,34 @@ impl Watch {
         Watch {
             literals: NotedChains::new(alloc),
             differs: NotedChains::new(alloc),
+        }
+    }
+
+    /// Gives both chains one more term. A refusal is want of memory or of room, and a part may have been done then.
+    fn try_term(&mut self, alloc: Global) -> Result<(), AllocError>
+        ensures literals { OnOk result (self.new.literals.chains ≡ with_term self.old.literals.chains) }
+        ensures differs { OnOk result (self.new.differs.chains ≡ with_term self.old.differs.chains) }
+        ensures back { CanGoBack self.old self.new }
+    {
+        self.literals.add_term(alloc)?;
+        self.differs.add_term(alloc)
+    }
+
+    /// One more term, which ends no literal and no difference. A refusal is want of memory or of room, and the watch is as
+    /// before then.
+    pub fn add_term(&mut self, alloc: Global) -> Result<(), AllocError>
+        ensures literals { OnOk result (self.new.literals.chains ≡ with_term self.old.literals.chains) }
+        ensures differs { OnOk result (self.new.differs.chains ≡ with_term self.old.differs.chains) }
+        ensures err { OnErr result (self.new ≡ self.old) }
+        ensures back { CanGoBack self.old self.new }
+    {
+        let mark = self.mark();
+        match self.try_term(alloc) {
+            Ok(()) => Ok(()),
+            Err(fault) => {
+                self.back_to(mark);
+                Err(fault)
+            }
         }
     }
 
