@@ -4,6 +4,5 @@ mod errors;
 mod faults;
 mod fixture;
 mod library;
-mod random;
 mod solve;
 mod texts;
