@@ -12,6 +12,7 @@ pub mod laws;
 pub mod link;
 pub mod mark;
 pub mod noted_chains;
+pub mod serve;
 pub mod watch;
 
 pub use chains::Chains;

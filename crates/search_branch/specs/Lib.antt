@@ -1,0 +1,4 @@
+pub mod Steps
+pub mod Given
+pub mod Right
+pub mod Levels

@@ -1,0 +1,119 @@
+//! The values of all formulas in a branch of the search.
+ghost use Rattle.std.specs.Prelude.{◌≡◌, ℕ, ◌<◌, ◌++◌, ◌∷◌, false, List, [], length, slice_get, Some, IfOk, OnOk};
+ghost use Rattle.formula_table.specs.declared.node.Node.TheVariants.{Or};
+ghost use Rattle.formula_value.specs.Holds.{HasNode};
+ghost use Rattle.formula_table.specs.declared.node.Node.{Node as SpecNode};
+ghost use Rattle.graph_meaning.specs.State.{replay};
+ghost use Rattle.formula_assert.specs.Held.{held, refuting_of};
+ghost use Rattle.formula_assert.specs.Assertions.{Assertions, held_of};
+ghost use Rattle.formula_assert.specs.Asserts.{Asserts};
+ghost use Rattle.formula_assert.specs.InLevel.{HoldsMoreOver};
+ghost use Rattle.search_branch.specs.declared.branch_values.BranchValues.{BranchValues as ValuesOf};
+ghost use Rattle.search_branch.specs.Right.{AreValuesOf};
+ghost use Rattle.search_branch.specs.Levels.{IsLevelOver};
+ghost use Rattle.search_branch.specs.Steps.{IsStep, branch_of};
+
+use crate::step::Step;
+use formula_assert::AssertionStack;
+use graph_terms::Memory;
+use search_values::NodeValues;
+use search_watch::{Mark, Watch};
+use std::alloc::Global;
+
+/// The values of all formulas by what an assertion stack holds, with levels.
+#[derive(Drop)]
+pub struct BranchValues {
+    /// The value of each formula, and which are units, open and stuck.
+    values: NodeValues,
+    /// For each class the literals and the differences that its terms end.
+    watch: Watch,
+    /// What the watch goes back to where a level ends, the innermost level last.
+    marks: Vec<Mark>,
+    /// Whether two terms that are kept apart are equal; the values are not looked at then.
+    lost: bool,
+}
+
+impl BranchValues {
+    /// The values of all formulas by what the stack holds; nothing is struck, and no level is open.
+    pub fn new(alloc: Global, stack: &AssertionStack) -> Result<BranchValues, Memory>
+        requires { stack.now.formulas.foralls ≡ [] }
+        ensures { IfOk result (λ values. AreValuesOf stack.now [] values) }
+    {
+        Err(Memory)
+    }
+
+    /// What the search does next. It costs the reading of a few sets and the places of one disjunction.
+    pub fn next_step(&self) -> Result<Step, Memory>
+        ensures { IfOk result (λ step. (now : Assertions) (struck : List (ℕ × ℕ)) → AreValuesOf now struck self.now → IsStep now.formulas (branch_of now struck) step) }
+    {
+        Err(Memory)
+    }
+
+    /// Opens a level. Without memory all is as before.
+    pub fn open(&mut self) -> Result<(), Memory>
+        ensures over { OnOk result (IsLevelOver self.old self.new) }
+        ensures values { OnOk result ((now : Assertions) (struck : List (ℕ × ℕ)) → AreValuesOf now struck self.old → AreValuesOf now struck self.new) }
+    {
+        Err(Memory)
+    }
+
+    /// Ends the innermost level: the values are those that were there when it was opened. It takes no memory.
+    pub fn close(&mut self)
+        requires { (before : ValuesOf) × IsLevelOver before self.old }
+        ensures values { (before : ValuesOf) → IsLevelOver before self.old → before.lost ≡ false → (now : Assertions) (struck : List (ℕ × ℕ)) → AreValuesOf now struck before → AreValuesOf now struck self.new }
+        ensures levels { (before outer : ValuesOf) → IsLevelOver before self.old → IsLevelOver outer before → IsLevelOver outer self.new }
+    {
+        if let Some(mark) = self.marks.pop() {
+            self.values.pop();
+            self.watch.back_to(mark);
+            self.lost = false;
+        }
+    }
+
+    /// Asserts a formula in the stack, with all that it stands for. There may be no clash. After want of memory the values
+    /// are those of nothing, and in the stack a part may stand, which goes where a mark is gone back to.
+    pub fn assert(
+        &mut self,
+        alloc: Global,
+        stack: &mut AssertionStack,
+        part: u32,
+    ) -> Result<(), Memory>
+        requires stands { part < length stack.old.formulas.nodes }
+        requires calm { self.old.lost ≡ false }
+        requires values { (struck : List (ℕ × ℕ)) × AreValuesOf stack.old struck self.old }
+        ensures asserts { OnOk result (Asserts stack.old.formulas part (held_of stack.old) (held_of stack.new)) }
+        ensures more { HoldsMoreOver stack.old stack.new }
+        ensures values { OnOk result ((struck : List (ℕ × ℕ)) → AreValuesOf stack.old struck self.old → AreValuesOf stack.new struck self.new) }
+        ensures level { OnOk result ((before : ValuesOf) → IsLevelOver before self.old → IsLevelOver before self.new) }
+    {
+        Err(Memory)
+    }
+
+    /// Strikes a place of a disjunction, and refutes its part in the stack. There may be no clash. After want of memory the
+    /// values are those of nothing.
+    pub fn refute(
+        &mut self,
+        alloc: Global,
+        stack: &mut AssertionStack,
+        node: u32,
+        place: u32,
+        part: u32,
+    ) -> Result<(), Memory>
+        requires place { (parts : List ℕ) × HasNode stack.old.formulas.nodes node (Or parts) × (slice_get parts place ≡ Some part) }
+        requires calm { self.old.lost ≡ false }
+        requires values { (struck : List (ℕ × ℕ)) × AreValuesOf stack.old struck self.old }
+        ensures refutes { OnOk result ((literal : SpecNode) → HasNode stack.old.formulas.nodes part literal → held_of stack.new ≡ held (replay stack.old.graph (refuting_of literal)) stack.old.asserted) }
+        ensures more { HoldsMoreOver stack.old stack.new }
+        ensures values { OnOk result ((struck : List (ℕ × ℕ)) → AreValuesOf stack.old struck self.old → AreValuesOf stack.new (struck ++ (node, place) ∷ []) self.new) }
+        ensures level { OnOk result ((before : ValuesOf) → IsLevelOver before self.old → IsLevelOver before self.new) }
+    {
+        Err(Memory)
+    }
+
+    /// Whether two terms that are kept apart are equal.
+    pub fn is_lost(&self) -> bool
+        ensures { result ≡ self.now.lost }
+    {
+        self.lost
+    }
+}
