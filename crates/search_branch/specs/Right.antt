@@ -1,6 +1,6 @@
 -- Values that are right for what is held.
 use Rattle.std.specs.Prelude.{◌≡◌, ◌↔◌, ℕ, false, IsTrue, List, [], length}
-use Rattle.formula_table.specs.Formulas.{Formulas}
+use Rattle.formula_table.specs.Formulas.{Formulas, IsFormulaTable}
 use Rattle.formula_assert.specs.Held.{Held}
 use Rattle.formula_assert.specs.Assertions.{Assertions, held_of}
 use Rattle.search_values.specs.Kept.{given_of}
@@ -17,6 +17,7 @@ pub record AreCurrent (formulas : Formulas) (now : Held) (struck : List (ℕ × 
 -- the values are those of the assertions, with these places struck; where the graph has a clash this is known, and
 -- nothing else
 pub record AreValuesOf (now : Assertions) (struck : List (ℕ × ℕ)) (values : BranchValues) : Type 0 where
+  pub table : IsFormulaTable now.formulas
   pub ground : now.formulas.foralls ≡ []
   pub lost : IsTrue values.lost ↔ HasClash now.graph.standing
   pub current : values.lost ≡ false → AreCurrent now.formulas (held_of now) struck values

@@ -26,3 +26,10 @@ IsStep formulas branch (Assert part) = HasNoConflict formulas branch × (n : ℕ
 IsStep formulas branch (Split n place part) = HasNoConflict formulas branch × HasNoUnit formulas branch ×
     IsSplit formulas branch n place part
 IsStep formulas branch WayOut = HasNoConflict formulas branch × HasNoUnit formulas branch × HasNoOpen formulas branch
+
+-- the part that the step asserts is below the bound
+abbrev pub IsWithin : ℕ → Step → Type 0
+IsWithin bound Lost = Unit {0}
+IsWithin bound (Assert part) = part < bound
+IsWithin bound (Split n place part) = part < bound
+IsWithin bound WayOut = Unit {0}

@@ -11,7 +11,7 @@ ghost use Rattle.formula_assert.specs.InLevel.{HoldsMoreOver};
 ghost use Rattle.search_branch.specs.declared.branch_values.BranchValues.{BranchValues as ValuesOf};
 ghost use Rattle.search_branch.specs.Right.{AreValuesOf};
 ghost use Rattle.search_branch.specs.Levels.{IsLevelOver};
-ghost use Rattle.search_branch.specs.Steps.{IsStep, branch_of};
+ghost use Rattle.search_branch.specs.Steps.{IsStep, IsWithin, branch_of};
 
 use crate::step::Step;
 use formula_assert::AssertionStack;
@@ -45,6 +45,7 @@ impl BranchValues {
     /// What the search does next. It costs the reading of a few sets and the places of one disjunction.
     pub fn next_step(&self) -> Result<Step, Memory>
         ensures { IfOk result (λ step. (now : Assertions) (struck : List (ℕ × ℕ)) → AreValuesOf now struck self.now → IsStep now.formulas (branch_of now struck) step) }
+        ensures within { IfOk result (λ step. (now : Assertions) (struck : List (ℕ × ℕ)) → AreValuesOf now struck self.now → IsWithin (length now.formulas.nodes) step) }
     {
         Err(Memory)
     }

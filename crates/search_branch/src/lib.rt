@@ -7,6 +7,7 @@
 pub mod branch_values;
 mod build;
 mod leaf;
+mod next;
 pub mod step;
 
 pub use branch_values::BranchValues;

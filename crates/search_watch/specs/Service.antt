@@ -52,15 +52,15 @@ ServesNow standing watch = (ends : List (ℕ × ℕ)) × (bound : ℕ) × Serves
 abbrev pub HasClash : List Done → Type 0
 HasClash standing = Same standing 0 1 ⊎ Clashes (Same standing) (differs_of standing)
 
--- a literal has the value that it had, or it had none and was found
-abbrev pub StaysOrFound : List ℕ → ℕ → Truth → Truth → Type 0
-StaysOrFound found item before after = (before ≡ after) ⊎ ((before ≡ Unset) × Contains found item)
+-- a literal that had this value has it by what stands now, or it had none and was found
+abbrev pub StaysOrFound : (Truth → Type 0) → List ℕ → ℕ → Truth → Type 0
+StaysOrFound has found item old = has old ⊎ ((old ≡ Unset) × Contains found item)
 
--- each literal has the value that it had by the earlier list, or it had none and was found
+-- each literal has the value now that it had by the earlier list, or it had none and was found
 pub record FindsChanges (before now : List Done) (ends : List (ℕ × ℕ)) (found : List ℕ) : Type 0 where
-  pub equations : (item s t : ℕ) (old new : Truth) → Contains ends (item, s) → Contains ends (item, t) →
+  pub equations : (item s t : ℕ) (old : Truth) → Contains ends (item, s) → Contains ends (item, t) →
       IsEquationValue (Same before) (differs_of before) s t old →
-      IsEquationValue (Same now) (differs_of now) s t new → StaysOrFound found item old new
-  pub atoms : (item t : ℕ) (old new : Truth) → Contains ends (item, t) → Contains ends (item, 0) →
-      Contains ends (item, 1) → IsAtomValue (Same before) t old → IsAtomValue (Same now) t new →
-      StaysOrFound found item old new
+      StaysOrFound (IsEquationValue (Same now) (differs_of now) s t) found item old
+  pub atoms : (item t : ℕ) (old : Truth) → Contains ends (item, t) → Contains ends (item, 0) →
+      Contains ends (item, 1) → IsAtomValue (Same before) t old →
+      StaysOrFound (IsAtomValue (Same now) t) found item old
