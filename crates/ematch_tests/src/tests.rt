@@ -4,5 +4,6 @@ mod errors;
 mod faults;
 mod fixture;
 mod library;
+mod random;
 mod solve;
 mod texts;
