@@ -6,6 +6,7 @@
 //! that was taken.
 #![tactic(auto)]
 
+mod between;
 pub mod chains;
 pub mod evaluate;
 pub mod laws;
