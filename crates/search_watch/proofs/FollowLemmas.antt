@@ -31,6 +31,9 @@ split_at d n = search arith
 same_or_not : (i j : ℕ) → (i ≡ j) ⊎ (i ≡ j → ⊥)
 same_or_not i j = search arith
 
+pub false_no : IsTrue false → ⊥
+false_no e = cc
+
 -- a number is on a list or not
 on_or_not : (xs : List ℕ) (x : ℕ) → Contains xs x ⊎ (Contains xs x → ⊥)
 on_or_not [] x = inr (λ on. omega (arith, on.1))
