@@ -1,5 +1,5 @@
 -- What is found at differences on a list.
-use Rattle.std.proofs.Common.{◌≡◌, ◌<◌, ◌≤◌, ◌+◌, ◌⊎◌, inl, inr, ℕ, List, [], ◌∷◌, ◌++◌, length, take, slice_get, slice_index, slice_index_or, Some, Contains, All, IsTrue, false, ◌↔◌, sym, ◌∙◌, ap, subst, arith}
+use Rattle.std.proofs.Common.{◌≡◌, ◌<◌, ◌≤◌, ◌+◌, ◌⊎◌, inl, inr, ℕ, List, [], ◌∷◌, ◌++◌, length, take, slice_index, slice_index_or, Contains, All, IsTrue, false, ◌↔◌, sym, ◌∙◌, ap, subst, arith}
 use Rattle.std.proofs.lemmas.Option.{get_or_from_slice_get, slice_get-get_or, slice_get_within}
 use Rattle.std.proofs.lemmas.List.{take_more, take_all}
 use Rattle.std.proofs.lemmas.List.Elements.{All-get_or, Contains-get_or, Contains-append_left, Contains-append_right, Contains-push, Contains-push_cases, All-same, All-push}
@@ -9,7 +9,7 @@ use Rattle.graph_meaning.specs.Same as congruence
 use Rattle.search_watch.specs.Literals.{Clashes}
 use Rattle.search_watch.specs.Chains.{Chained, HasChain, chain_at}
 use Rattle.search_watch.specs.Covers.{Covers}
-use Rattle.search_watch.specs.Found.{IsBetween, IsFoundClash}
+use Rattle.search_watch.specs.Found.{IsFoundClash}
 use Rattle.search_watch.specs.Follow.{HasBetween}
 
 -- the two ends of the difference at a place of the list

@@ -1,5 +1,5 @@
 -- The ends of differences by number.
-use Rattle.std.proofs.Common.{zero, suc, ◌≡◌, ◌<◌, ◌≤◌, ◌+◌, ℕ, List, [], ◌∷◌, ◌++◌, length, take, slice_get, slice_index_or, Some, Contains, ◌∙◌, ap, subst, arith}
+use Rattle.std.proofs.Common.{zero, suc, ◌≡◌, ◌<◌, ◌+◌, ℕ, List, [], ◌∷◌, ◌++◌, length, take, slice_get, slice_index_or, Some, Contains, ◌∙◌, ap, subst, arith}
 use Rattle.std.proofs.lemmas.List.{take_more, length-take, length-take-le, take-append-drop}
 use Rattle.std.proofs.lemmas.List.{get_or-take}
 use Rattle.std.proofs.lemmas.List.Elements.{Contains-append_left, Contains-get_or}
@@ -28,7 +28,7 @@ tells_from from (x ∷ xs) (suc d) a b e =
     let both = tells_from (from + 1) xs d a b e in
     let same : (from + 1) + d ≡ from + suc d = omega arith in
     let among : (end : ℕ) → Contains rest ((from + 1) + d, end) → Contains ((from, x.0) ∷ (from, x.1) ∷ rest) (from + suc d, end) =
-        λ end on. later (from, x.0) (from + suc d, end) ((from, x.1) ∷ rest) (later (from, x.1) (from + suc d, end) rest (subst (λ (n : ℕ). Contains rest (n, end)) same on)) in
+    λ end on. later (from, x.0) (from + suc d, end) ((from, x.1) ∷ rest) (later (from, x.1) (from + suc d, end) rest (subst (λ (n : ℕ). Contains rest (n, end)) same on)) in
     (among a both.0, among b both.1)
 
 pub tells_ends : (differs : List (ℕ × ℕ)) (d a b : ℕ) → slice_get differs d ≡ Some (a, b) → Contains (ends_from 0 differs) (d, a) × Contains (ends_from 0 differs) (d, b)

@@ -1,5 +1,5 @@
 -- A watch that follows its graph.
-use Rattle.std.proofs.Common.{zero, suc, ◌≡◌, ◌<◌, ◌≤◌, ◌⊎◌, ◌↔◌, inl, inr, ℕ, Bool, true, false, List, [], ◌∷◌, ◌++◌, length, take, slice_get, slice_index_or, Some, Contains, All, IsTrue, refl, sym, ◌∙◌, ap, subst, arith}
+use Rattle.std.proofs.Common.{zero, suc, ◌≡◌, ◌<◌, ◌≤◌, ◌⊎◌, ◌↔◌, inl, inr, ℕ, Bool, false, List, [], ◌∷◌, length, take, slice_get, slice_index_or, Some, Contains, All, IsTrue, refl, sym, ◌∙◌, ap, subst, arith}
 use Rattle.std.proofs.lemmas.List.{length-take}
 use Rattle.std.proofs.lemmas.List.Elements.{All-weaker}
 use Rattle.graph_meaning.specs.declared.union.Union.{Union}
@@ -14,10 +14,9 @@ use Rattle.search_watch.specs.declared.watch.Watch.{Watch}
 use Rattle.search_watch.specs.Literals.{AreKeptApart, IsEquationValue, IsAtomValue, Clashes}
 use Rattle.search_watch.specs.Laws.{Joins}
 use Rattle.search_watch.specs.Covers.{Covers, ItemsBelow}
-use Rattle.search_watch.specs.Chains.{Chained}
-use Rattle.search_watch.specs.Watched.{World, IsWatched, AreLed, KeepsItems, Gathers, LooksAtUnions, classes}
+use Rattle.search_watch.specs.Watched.{IsWatched, AreLed, KeepsItems, Gathers, LooksAtUnions, classes}
 use Rattle.search_watch.specs.Found.{IsBetween, IsFoundClash}
-use Rattle.search_watch.specs.Service.{Service, Serves, HasClash, StaysOrFound, FindsChanges, service, world_of, ends_from}
+use Rattle.search_watch.specs.Service.{Service, HasClash, StaysOrFound, FindsChanges, service, world_of, ends_from}
 use Rattle.search_watch.specs.Follow.{IsBehind, ServesOver, HasBetween, world_over}
 use Rattle.search_watch.proofs.ItemLemmas.{got_item}
 use Rattle.search_watch.proofs.FoundLemmas.{equation_found, atom_found, clash_found}
@@ -78,7 +77,7 @@ module _ (before : Service) (now : List Done) (unions : List Union) (earlier : �
             differs_stand = λ term lt. watched.differs_stand term (omega (arith, lt, ap length behind.terms));
             literals = covers_none now before.ends new.literals.chains (covers_after (world_of before) now unions before.ends new.literals.chains joins watched.literals);
             differs = subst (λ (ds : List (ℕ × ℕ)). Covers same (ends_from 0 ds) new.differs.chains) (sym first)
-            (covers_none now (ends_from 0 (differs_of before.standing)) new.differs.chains (covers_after (world_of before) now unions (ends_from 0 (differs_of before.standing)) new.differs.chains joins watched.differs));
+                (covers_none now (ends_from 0 (differs_of before.standing)) new.differs.chains (covers_after (world_of before) now unions (ends_from 0 (differs_of before.standing)) new.differs.chains joins watched.differs));
           };
           literals = keeps.literals before.bound behind.serves.literals;
           differs = subst (λ (ds : List (ℕ × ℕ)). ItemsBelow (length ds) new.differs.chains) (sym first) (keeps.differs (length (differs_of before.standing)) behind.serves.differs);

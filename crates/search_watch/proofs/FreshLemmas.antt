@@ -1,6 +1,6 @@
 -- Chains of terms that end nothing.
 use Rattle.std.proofs.Common.{zero, suc, ◌≡◌, ◌<◌, ◌+◌, ◌⊎◌, inl, inr, ℕ, List, [], ◌∷◌, ◌++◌, length, slice_index, slice_index_or, Contains, refl, sym, ◌∙◌, ap, subst, arith, length-append}
-use Rattle.search_watch.specs.Chains.{Chained, HasChain, slot_at, list_at, no_chains, with_term}
+use Rattle.search_watch.specs.Chains.{Chained, slot_at, no_chains, with_term}
 use Rattle.search_watch.specs.Covers.{Covers, ItemsBelow}
 use Rattle.search_watch.specs.Watched.{HaveChains}
 use Rattle.search_watch.proofs.ChainLemmas.{get_front}

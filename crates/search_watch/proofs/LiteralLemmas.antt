@@ -1,5 +1,5 @@
 -- One more end of a literal.
-use Rattle.std.proofs.Common.{◌≡◌, ◌<◌, ◌⊎◌, inl, inr, ℕ, List, [], ◌∷◌, ◌++◌, length, Contains, sym, ap, subst, arith}
+use Rattle.std.proofs.Common.{◌≡◌, ◌<◌, ◌⊎◌, inl, inr, ℕ, List, [], ◌∷◌, ◌++◌, length, Contains, sym, ap, subst}
 use Rattle.std.proofs.lemmas.List.Elements.{Contains-push_cases}
 use Rattle.graph_meaning.specs.declared.done.Done.{Done}
 use Rattle.graph_meaning.specs.Standing.{terms_of, differs_of}
@@ -39,7 +39,7 @@ literal_serves standing ends bound item term leader old new of lt is has put sam
         literals_stand = λ other within. subst (λ (c : Chained). HasChain c other) (sym put) (stands s leader item has other (of.watched.literals_stand other within));
         differs_stand = subst (λ (n : NotedChains). (other : ℕ) → other < length (terms_of standing) → HasChain n.chains other) (sym same) of.watched.differs_stand;
         literals = subst (λ (c : Chained). Covers (classes (world_of (service standing ends bound)) []) (ends ++ (item, term) ∷ []) c) (sym put)
-        (item_covers (world_of (service standing ends bound)) ends s item term leader of.watched.literals has (leads standing leader term is));
+            (item_covers (world_of (service standing ends bound)) ends s item term leader of.watched.literals has (leads standing leader term is));
         differs = subst (λ (n : NotedChains). Covers (classes (world_of (service standing ends bound)) []) (ends_from 0 (differs_of standing)) n.chains) (sym same) of.watched.differs;
       };
       literals = subst (λ (c : Chained). ItemsBelow bound c) (sym put) (below_item s leader item bound has lt of.literals);

@@ -1,19 +1,19 @@
 -- A watch that takes one difference after another.
-use Rattle.std.proofs.Common.{zero, suc, ◌≡◌, ◌<◌, ◌≤◌, ◌+◌, ℕ, List, [], ◌∷◌, ◌++◌, length, take, slice_index, slice_index_or, refl, sym, subst, arith}
+use Rattle.std.proofs.Common.{◌≡◌, ◌<◌, ◌≤◌, ◌+◌, ℕ, List, [], ◌∷◌, length, take, slice_index, slice_index_or, refl, sym, subst, arith}
 use Rattle.std.proofs.lemmas.List.{length-take-le, take_all}
 use Rattle.std.proofs.lemmas.List.Elements.{Contains-get_or}
 use Rattle.graph_meaning.specs.declared.union.Union.{Union}
 use Rattle.graph_meaning.specs.declared.done.Done.{Done}
-use Rattle.graph_meaning.specs.Standing.{terms_of, merges_of, differs_of}
-use Rattle.graph_meaning.specs.Same.{Same, IsLeader}
+use Rattle.graph_meaning.specs.Standing.{terms_of, differs_of}
+use Rattle.graph_meaning.specs.Same.{IsLeader}
 use Rattle.graph_meaning.specs.Lawful.{IsLawful}
 use Rattle.search_watch.specs.declared.watch.Watch.{Watch}
 use Rattle.search_watch.specs.declared.noted_chains.NotedChains.{NotedChains}
-use Rattle.search_watch.specs.Chains.{chain_at, slot_at, HasChain}
+use Rattle.search_watch.specs.Chains.{chain_at, slot_at}
 use Rattle.search_watch.specs.Covers.{ItemsBelow}
 use Rattle.search_watch.specs.Watched.{World, IsWatched, LeadsTerm, HaveChains, classes, with_difference}
 use Rattle.search_watch.specs.Evaluate.{AreDifferChains}
-use Rattle.search_watch.specs.Service.{Service, Serves, service, world_of, ends_from}
+use Rattle.search_watch.specs.Service.{Service, Serves, service, world_of}
 use Rattle.search_watch.specs.Follow.{world_over, ServesOver}
 use Rattle.search_watch.proofs.SameLemmas.{derived_terms}
 use Rattle.search_watch.proofs.SettleLemmas.{leads, no_unions}
@@ -38,7 +38,7 @@ over_more of differs k old new left right lt over of_left of_right adds same bel
     let len' = length-take-le (k + 1) differs (omega arith) in
     record {
       watched = subst (λ (ends : List (ℕ × ℕ)). IsWatched (record { standing = of.standing; terms = length (terms_of of.standing); literal_ends = of.ends; differ_ends = ends }) [] new) (sym (ends_more differs k lt))
-      (adds (world_over of (take k differs)) [] a b over.watched (leads of.standing left a of_left) (leads of.standing right b of_right));
+          (adds (world_over of (take k differs)) [] a b over.watched (leads of.standing left a of_left) (leads of.standing right b of_right));
       literals = subst (λ (n : NotedChains). ItemsBelow of.bound n.chains) (sym same) over.literals;
       differs = below (length (take (k + 1) differs)) (omega (arith, len')) (λ slot item on. let less = over.differs slot item on in omega (arith, less, len, len'));
     }

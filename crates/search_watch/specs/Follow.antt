@@ -1,5 +1,5 @@
 -- What it is for a watch to follow a graph from one list of operations to a later one.
-use Rattle.std.specs.Prelude.{◌≡◌, ℕ, List, [], ◌++◌, length, take, Contains}
+use Rattle.std.specs.Prelude.{◌≡◌, ℕ, List, [], length, take, Contains}
 use Rattle.graph_meaning.specs.declared.done.Done.{Done}
 use Rattle.graph_meaning.specs.declared.union.Union.{Union}
 use Rattle.graph_meaning.specs.Standing.{terms_of, differs_of}

@@ -23,11 +23,7 @@ pub struct Watch {
 }
 
 /// Puts the items of a leader's chain last.
-pub(crate) fn gather(
-    chains: &Chains,
-    leader: u32,
-    found: &mut Vec<u32>,
-) -> Result<(), AllocError>
+pub(crate) fn gather(chains: &Chains, leader: u32, found: &mut Vec<u32>) -> Result<(), AllocError>
     requires { HasChain chains.now leader }
     ensures { OnOk result (found.new.items ≡ found.old.items ++ chain_at chains.now leader) }
 {

@@ -4,7 +4,7 @@ use Rattle.graph_meaning.specs.declared.union.Union.{Union}
 use Rattle.graph_meaning.specs.Unions.{Generated, WasSame, union_of}
 use Rattle.search_watch.specs.Chains.{Chained}
 use Rattle.search_watch.specs.Covers.{Covers}
-use Rattle.search_watch.specs.Watched.{World, classes, HaveChains, LooksAtUnion}
+use Rattle.search_watch.specs.Watched.{classes, HaveChains, LooksAtUnion}
 use Rattle.search_watch.proofs.CoverLemmas.{join_covers}
 use Rattle.search_watch.proofs.WatchLemmas.{chains_stand, gathers, finds, looks_at, moved_least, both_stand, take_next, same_union, items_joined, found_below}
 use Rattle.search_watch.proofs.watch.Watch.after_union.Goals as goal

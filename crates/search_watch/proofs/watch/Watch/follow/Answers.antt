@@ -1,4 +1,4 @@
-use Rattle.std.proofs.Common.{ℕ, ◌<◌, ◌⊎◌, ◌↔◌, List, [], length, All, IsTrue, true, false, subst}
+use Rattle.std.proofs.Common.{ℕ, ◌<◌, ◌⊎◌, ◌↔◌, List, [], length, IsTrue, true, false, subst}
 use Rattle.std.proofs.lemmas.List.Elements.{All-nil, All-same}
 use Rattle.graph_meaning.specs.Standing.{terms_of, differs_of}
 use Rattle.graph_meaning.specs.Same.{Same}
@@ -37,7 +37,7 @@ has_clash-requires-clause-found g c =
     let count = length (differs_of was.standing) in
     let none = All-same (λ d. d < count) c.new-found.result.items [] c.new-found.ensures.items (All-nil (λ d. d < count)) in
     let numbers = found_numbers was standing c.args.unions.now c.args.earlier c.args.self.now behind c.args.differs.now c.requires.differs c.after_unions.new.differs.items
-        (c.in_ok-after_unions.ensures.differs_below count behind.serves.differs none) in
+    (c.in_ok-after_unions.ensures.differs_below count behind.serves.differs none) in
     All-same (λ d. d < length c.args.differs.now) c.deref.result.now c.push_later.new.found.items c.deref.ensures.value (c.in_ok-push_later.ensures.below numbers)
 
 pub gather_between-requires-clause-differs : goal.gather_between-requires-clause-differs
@@ -53,7 +53,7 @@ gather_between-requires-clause-found g c =
     let count = length (differs_of was.standing) in
     let none = All-same (λ d. d < count) c.new-found.result.items [] c.new-found.ensures.items (All-nil (λ d. d < count)) in
     let numbers = found_numbers was standing c.args.unions.now c.args.earlier c.args.self.now behind c.args.differs.now c.requires.differs c.after_unions.new.differs.items
-        (c.in_ok-after_unions.ensures.differs_below count behind.serves.differs none) in
+    (c.in_ok-after_unions.ensures.differs_below count behind.serves.differs none) in
     All-same (λ d. d < length c.args.differs.now) c.deref-2.result.now c.push_later.new.found.items c.deref-2.ensures.value (c.in_ok-push_later.ensures.below numbers)
 
 pub gather_between-requires-clause-have : goal.gather_between-requires-clause-have
@@ -95,7 +95,7 @@ returns-then-has_clash-clause-clash g c =
     let looks = c.in_ok-after_unions.ensures.looks (world_of was) behind.serves.watched led in
     let tells = subst (λ (ds : List ℕ). IsTrue true ↔ (Same standing 0 1 ⊎ IsFoundClash standing c.args.differs.now ds)) c.deref.ensures.value c.if-has_clash.ensures in
     let clash = clash_is was standing c.args.unions.now c.args.earlier c.args.self.now behind c.args.differs.now c.requires.differs c.after_unions.new.literals.items c.after_unions.new.differs.items c.push_later.new.found.items
-        looks c.in_ok-push_later.ensures.gathers c.in_ok-push_later.ensures.later true tells in
+    looks c.in_ok-push_later.ensures.gathers c.in_ok-push_later.ensures.later true tells in
     clash
 
 pub returns-clause-clash : goal.returns-clause-clash
@@ -107,7 +107,7 @@ returns-clause-clash g c =
     let looks = c.in_ok-after_unions.ensures.looks (world_of was) behind.serves.watched led in
     let tells = subst (λ (ds : List ℕ). IsTrue false ↔ (Same standing 0 1 ⊎ IsFoundClash standing c.args.differs.now ds)) c.deref.ensures.value c.if-has_clash.ensures in
     let clash = clash_is was standing c.args.unions.now c.args.earlier c.args.self.now behind c.args.differs.now c.requires.differs c.after_unions.new.literals.items c.after_unions.new.differs.items c.push_later.new.found.items
-        looks c.in_ok-push_later.ensures.gathers c.in_ok-push_later.ensures.later false tells in
+    looks c.in_ok-push_later.ensures.gathers c.in_ok-push_later.ensures.later false tells in
     clash
 
 -- ---- where nothing clashes
@@ -131,11 +131,11 @@ returns-clause-finds g c = λ none was behind.
     let looks = c.in_ok-after_unions.ensures.looks (world_of was) behind.serves.watched led in
     let tells = subst (λ (ds : List ℕ). IsTrue false ↔ (Same standing 0 1 ⊎ IsFoundClash standing c.args.differs.now ds)) c.deref.ensures.value c.if-has_clash.ensures in
     let clash = clash_is was standing c.args.unions.now c.args.earlier c.args.self.now behind c.args.differs.now c.requires.differs c.after_unions.new.literals.items c.after_unions.new.differs.items c.push_later.new.found.items
-        looks c.in_ok-push_later.ensures.gathers c.in_ok-push_later.ensures.later false tells in
+    looks c.in_ok-push_later.ensures.gathers c.in_ok-push_later.ensures.later false tells in
     let chains = c.add_differences.new.self.literals.chains in
     let covers = covers_after (world_over (service standing was.ends was.bound) c.args.differs.now) standing [] was.ends chains (no_unions standing) over.watched.literals in
     let between = subst (λ (ds : List ℕ). HasBetween standing c.args.differs.now ds was.ends c.gather_between.new.literals.items) c.deref-2.ensures.value
-        (c.in_ok-gather_between.ensures.between was.ends covers) in
+    (c.in_ok-gather_between.ensures.between was.ends covers) in
     finds_changes was standing c.args.unions.now c.args.earlier c.args.self.now behind c.args.differs.now c.requires.differs c.after_unions.new.literals.items c.after_unions.new.differs.items c.push_later.new.found.items
     looks c.in_ok-push_later.ensures.gathers c.in_ok-push_later.ensures.later c.gather_between.new.literals.items c.in_ok-gather_between.ensures.gathers between (λ has. false_no (clash.1 has))
 

@@ -1,4 +1,4 @@
-use Rattle.search_watch.proofs.WatchLemmas.{items_none, items_trans, looks_none, looks_step}
+use Rattle.search_watch.proofs.WatchLemmas.{items_trans, looks_step}
 use Rattle.search_watch.proofs.NotedLemmas.{back_trans}
 use Rattle.search_watch.proofs.watch.Watch.try_unions.Goals as goal
 

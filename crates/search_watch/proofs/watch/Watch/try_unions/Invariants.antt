@@ -1,4 +1,4 @@
-use Rattle.std.proofs.Common.{ℕ, ◌<◌, [], length, take, All}
+use Rattle.std.proofs.Common.{ℕ, ◌<◌, [], take, All}
 use Rattle.search_watch.specs.Covers.{ItemsBelow}
 use Rattle.search_watch.specs.Watched.{World, IsWatched, AreLed, KeepsItems, LooksAtUnions}
 use Rattle.search_watch.specs.Back.{CanGoBack}
