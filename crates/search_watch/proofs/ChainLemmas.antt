@@ -45,7 +45,7 @@ cut_back s now next slot len front list within was is cut done =
     done ∙ ap (λ xs. with_list now slot (take len xs)) here ∙ ap (with_list now slot) cut ∙ ap (λ (c : Chained). with_list c slot front) is
     ∙ ap (λ ls. record s { lists = ls }) (set-set s.lists slot list front ∙ ap (slice_set s.lists slot) was ∙ set-same s.lists slot [])
 
-get_front : (xs ys : List ℕ) (i : ℕ) → i < length xs → slice_index (xs ++ ys) i ≡ slice_index xs i
+pub get_front : (xs ys : List ℕ) (i : ℕ) → i < length xs → slice_index (xs ++ ys) i ≡ slice_index xs i
 get_front [] ys i h = absurd (omega arith)
 get_front (x ∷ xs) ys zero h = refl
 get_front (x ∷ xs) ys (suc i) h = get_front xs ys i (omega arith)

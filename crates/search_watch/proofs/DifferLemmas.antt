@@ -41,7 +41,7 @@ module _ (s : Chained) (leader item : ℕ) (has : HasChain s leader) where
   }
 
 -- a term has one leader
-one_leader : (world : World) (unions : List Union) (one other term : ℕ) → IsLeast (classes world unions) one → classes world unions one term → LeadsTerm world unions other term → one ≡ other
+pub one_leader : (world : World) (unions : List Union) (one other term : ℕ) → IsLeast (classes world unions) one → classes world unions one term → LeadsTerm world unions other term → one ≡ other
 one_leader world unions one other term least g leads =
     let a = least other (joined g (turned leads.1)) in
     let b = leads.0 one (joined leads.1 (turned g)) in
@@ -97,7 +97,7 @@ difference_watched world unions old new d a b left right same is has_left has_ri
 
 -- ---- items stay below their bound
 
-below_item : (s : Chained) (leader item count : ℕ) → HasChain s leader → item < count → ItemsBelow count s → ItemsBelow count (with_item s leader item)
+pub below_item : (s : Chained) (leader item count : ℕ) → HasChain s leader → item < count → ItemsBelow count s → ItemsBelow count (with_item s leader item)
 below_item s leader item count has lt below slot other on = elim (same_or_not slot (slot_at s leader)) [
   | inl same ↦
       let here = ap (λ k. slice_index_or (slice_set s.lists (slot_at s leader) (chain_at s leader ++ item ∷ [])) k []) same ∙ get-set_same s.lists (slot_at s leader) (chain_at s leader ++ item ∷ []) [] has.slot_stands in

@@ -8,3 +8,11 @@ pub mod DifferLemmas
 pub mod WatchLemmas
 pub mod FoundLemmas
 pub mod ServeLemmas
+pub mod SameLemmas
+pub mod SettleLemmas
+pub mod EndsLemmas
+pub mod FreshLemmas
+pub mod LiteralLemmas
+pub mod OverLemmas
+pub mod BetweenLemmas
+pub mod FollowLemmas

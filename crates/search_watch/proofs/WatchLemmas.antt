@@ -1,7 +1,7 @@
 -- What is found at a union, and at several.
-use Rattle.std.proofs.Common.{zero, suc, ◌≡◌, ◌<◌, ◌+◌, ◌⊎◌, inl, inr, ℕ, min, true, false, List, [], ◌∷◌, ◌++◌, length, take, slice_index, slice_index_or, slice_set, slice_get, Some, Contains, sym, ◌∙◌, ap, subst, arith}
+use Rattle.std.proofs.Common.{zero, suc, ◌≡◌, ◌<◌, ◌+◌, ◌⊎◌, inl, inr, ℕ, min, true, false, List, [], ◌∷◌, ◌++◌, length, take, slice_index, slice_index_or, slice_set, slice_get, Some, Contains, sym, ◌∙◌, ap, subst, arith, All}
 use Rattle.std.proofs.lemmas.List.{take_more}
-use Rattle.std.proofs.lemmas.List.Elements.{Contains-append_left, Contains-append_right}
+use Rattle.std.proofs.lemmas.List.Elements.{Contains-append_left, Contains-append_right, Contains-get_or, All-append, All-same, All-from_get_or}
 use Rattle.std.proofs.Math.ListN.{length-set}
 use Rattle.graph_meaning.specs.declared.union.Union.{Union}
 use Rattle.graph_meaning.specs.Unions.{IsLeast, Leads}
@@ -103,3 +103,13 @@ items_joined old new moved kept has has' is is' = record {
   literals = λ count below. subst (λ (s : Chained). ItemsBelow count s) (sym is) (below_join old.literals.chains moved kept count has.slot_stands below);
   differs = λ count below. subst (λ (s : Chained). ItemsBelow count s) (sym is') (below_join old.differs.chains moved kept count has'.slot_stands below);
 }
+
+-- what is gathered from a chain is below the bound of the chains
+pub chain_below : (s : Chained) (leader count : ℕ) → ItemsBelow count s → All (λ item. item < count) (chain_at s leader)
+chain_below s leader count below = All-from_get_or (λ item. item < count) (chain_at s leader) 0 (λ i lt. below (slot_at s leader) (slice_index_or (chain_at s leader) i 0) (Contains-get_or (chain_at s leader) i 0 lt))
+
+pub found_below : (s : Chained) (leader count : ℕ) (old new : List ℕ) → new ≡ old ++ chain_at s leader → ItemsBelow count s → All (λ item. item < count) old → All (λ item. item < count) new
+found_below s leader count old new is below all = All-same (λ item. item < count) new (old ++ chain_at s leader) is (All-append (λ item. item < count) old (chain_at s leader) all (chain_below s leader count below))
+
+pub looks_none : (world : World) (unions : List Union) (literals differs : List ℕ) → LooksAtUnions world unions 0 literals differs
+looks_none world unions literals differs k union lt at = absurd (omega arith)

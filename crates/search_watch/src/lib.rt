@@ -2,10 +2,11 @@
 //!
 //! A literal is an equation of two terms, or an atom, which is an equation of a term and true or false. [`Watch`] goes
 //! through listed unions and finds what to look at; [`equation_value`] and [`atom_value`] say what is known of one;
-//! the laws in [`laws`] say that what was found is enough. Each change of a watch is noted, and it goes back to any mark
-//! that was taken.
+//! the laws in [`laws`] say that what was found is enough. A watch is made of a graph, takes ends of literals, and follows
+//! the graph. Each change of a watch is noted, and it goes back to any mark that was taken.
 #![tactic(auto)]
 
+mod between;
 pub mod chains;
 pub mod evaluate;
 pub mod laws;

@@ -1,12 +1,15 @@
 //! A watch that serves a graph: it is made of one, it takes literals, and it follows the graph.
-ghost use Rattle.std.specs.Prelude.{◌≡◌, ℕ, ◌<◌, ◌++◌, ◌∷◌, ◌↔◌, false, IsTrue, List, [], length, All, IfOk, OnOk};
+ghost use Rattle.std.specs.Prelude.{◌≡◌, ℕ, ◌<◌, ◌++◌, ◌∷◌, ◌↔◌, false, IsTrue, List, [], length, take, All, IfOk, OnOk};
 ghost use Rattle.graph_meaning.specs.Standing.{terms_of, differs_of};
 ghost use Rattle.graph_meaning.specs.Same.{Same};
 ghost use Rattle.search_watch.specs.Literals.{IsEquationValue};
-ghost use Rattle.search_watch.specs.Back.{CanGoBack};
+ghost use Rattle.search_watch.specs.Back.{CanGoBack, no_watch};
+ghost use Rattle.search_watch.specs.Covers.{ItemsBelow};
+ghost use Rattle.search_watch.specs.Watched.{HaveChains};
 ghost use Rattle.search_watch.specs.Service.{Service, Serves, ServesNow, HasClash, FindsChanges, service, where_stands};
-ghost use Rattle.search_watch.specs.Follow.{IsBehind};
+ghost use Rattle.search_watch.specs.Follow.{IsBehind, ServesOver};
 
+use crate::between::{gather_between, has_clash, push_later};
 use crate::evaluate::equation_value;
 use crate::watch::Watch;
 use formula_truth::Truth;
@@ -14,6 +17,43 @@ use graph_meaning::{ClassGraph, Union};
 use std::alloc::{AllocError, Global};
 
 impl Watch {
+    /// Gives so many terms to a watch that has none. A refusal is want of memory or of room.
+    fn add_terms(&mut self, alloc: Global, count: u32) -> Result<(), AllocError>
+        requires { self.old ≡ no_watch }
+        ensures literals { OnOk result (HaveChains count self.new.literals.chains × ItemsBelow 0 self.new.literals.chains) }
+        ensures differs { OnOk result (HaveChains count self.new.differs.chains × ItemsBelow 0 self.new.differs.chains) }
+    {
+        for _k in 0..count {
+            self.add_term(alloc)?;
+        }
+        Ok(())
+    }
+
+    /// Takes the differences, which the pairs are, from the earlier ones on. A refusal is want of memory or of room, and a
+    /// part may have been done then.
+    fn add_differences<G: ClassGraph>(
+        &mut self,
+        graph: &G,
+        differs: &[(u32, u32)],
+        earlier: usize,
+    ) -> Result<(), AllocError>
+        requires serves { (ends : List (ℕ × ℕ)) × (bound : ℕ) × ServesOver (service (G.standing graph.now) ends bound) (take earlier differs.now) self.old }
+        requires differs { differs.now ≡ differs_of (G.standing graph.now) }
+        ensures serves { OnOk result ((ends : List (ℕ × ℕ)) (bound : ℕ) → ServesOver (service (G.standing graph.now) ends bound) (take earlier differs.now) self.old → ServesOver (service (G.standing graph.now) ends bound) differs.now self.new) }
+        ensures back { CanGoBack self.old self.new }
+    {
+        let _terms = graph.len();
+        for d in earlier..differs.len() {
+            if d > u32::MAX as usize {
+                return Err(AllocError);
+            }
+            let left = graph.leader(differs[d].0);
+            let right = graph.leader(differs[d].1);
+            self.add_difference(d as u32, left, right)?;
+        }
+        Ok(())
+    }
+
     /// A watch of the graph without literals. The pairs are the differences that stand in it. A refusal is want of memory or
     /// of room.
     pub fn of_graph<G: ClassGraph>(
@@ -24,7 +64,10 @@ impl Watch {
         requires { differs.now ≡ differs_of (G.standing graph.now) }
         ensures { IfOk result (λ watch. (bound : ℕ) → Serves (service (G.standing graph.now) [] bound) watch) }
     {
-        Err(AllocError)
+        let mut watch = Watch::new(alloc);
+        watch.add_terms(alloc, graph.len())?;
+        watch.add_differences(graph, differs, 0)?;
+        Ok(watch)
     }
 
     /// One more end of a literal, which has this number. A refusal is want of memory or of room.
@@ -38,7 +81,10 @@ impl Watch {
         requires term { term < length (terms_of (G.standing graph.now)) }
         ensures { OnOk result ((ends : List (ℕ × ℕ)) (bound : ℕ) → Serves (service (G.standing graph.now) ends bound) self.old → item < bound → Serves (service (G.standing graph.now) (ends ++ (item, term) ∷ []) bound) self.new) }
     {
-        Err(AllocError)
+        let _terms = graph.len();
+        let leader = graph.leader(term);
+        self.literals.put(leader, item)?;
+        Ok(())
     }
 
     /// Follows the graph over these unions and over the differences, which the pairs are, from the earlier ones on. It puts
@@ -60,7 +106,16 @@ impl Watch {
         ensures within { OnOk result ((was : Service) → IsBehind was (G.standing graph.now) unions.now earlier self.old → All (λ item. item < was.bound) literals.old.items → All (λ item. item < was.bound) literals.new.items) }
         ensures back { CanGoBack self.old self.new }
     {
-        Err(AllocError)
+        let _terms = graph.len();
+        let mut found = Vec::new(*literals.allocator());
+        self.after_unions(unions, literals, &mut found)?;
+        self.add_differences(graph, differs, earlier)?;
+        push_later(earlier, differs.len(), &mut found)?;
+        if has_clash(graph, differs, &found) {
+            return Ok(true);
+        }
+        gather_between(graph, &self.literals.chains, differs, &found, literals)?;
+        Ok(false)
     }
 
     /// What is known of an equation. The pairs are the differences that stand. It takes no memory.
@@ -77,6 +132,7 @@ impl Watch {
         requires right { right < length (terms_of (G.standing graph.now)) }
         ensures { IsEquationValue (Same (G.standing graph.now)) (differs_of (G.standing graph.now)) left right result }
     {
+        let _terms = graph.len();
         equation_value(graph, differs, &self.differs.chains, left, right)
     }
 }

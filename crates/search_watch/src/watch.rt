@@ -1,5 +1,5 @@
 //! Which literals and differences are looked at after unions of classes.
-ghost use Rattle.std.specs.Prelude.{◌≡◌, ◌<◌, ◌⊎◌, ◌+◌, ◌++◌, ◌∷◌, ℕ, List, [], length, take, slice_get, Some, OnOk, OnErr};
+ghost use Rattle.std.specs.Prelude.{◌≡◌, ◌<◌, ◌⊎◌, ◌+◌, ◌++◌, ◌∷◌, ℕ, List, [], All, length, take, slice_get, Some, OnOk, OnErr};
 ghost use Rattle.graph_meaning.specs.declared.union.Union.{Union as UnionOf};
 ghost use Rattle.search_watch.specs.Chains.{chain_at, HasChain, with_both, with_term};
 ghost use Rattle.search_watch.specs.Covers.{ItemsBelow};
@@ -10,7 +10,7 @@ ghost use Rattle.search_watch.specs.declared.watch.Watch.{Watch as WatchOf};
 use crate::chains::Chains;
 use crate::mark::Mark;
 use crate::noted_chains::NotedChains;
-use graph_classes::Unions;
+use graph_meaning::Union;
 use std::alloc::{AllocError, Global};
 
 /// For each class the literals that its terms end, and the differences, with the trails of their changes.
@@ -23,7 +23,7 @@ pub struct Watch {
 }
 
 /// Puts the items of a leader's chain last.
-fn gather(chains: &Chains, leader: u32, found: &mut Vec<u32>) -> Result<(), AllocError>
+pub(crate) fn gather(chains: &Chains, leader: u32, found: &mut Vec<u32>) -> Result<(), AllocError>
     requires { HasChain chains.now leader }
     ensures { OnOk result (found.new.items ≡ found.old.items ++ chain_at chains.now leader) }
 {
@@ -92,23 +92,23 @@ impl Watch {
     /// of memory or of room, and a part may have been done then.
     fn after_union(
         &mut self,
-        unions: &Unions,
-        k: u32,
+        unions: &[Union],
+        k: usize,
         literals: &mut Vec<u32>,
         differs: &mut Vec<u32>,
     ) -> Result<(), AllocError>
-        ghost world: { World }
         requires stands { k < length unions.now }
-        requires watched { IsWatched world (take k unions.now) self.old }
-        requires led { AreLed world unions.now }
-        ensures watched { OnOk result (IsWatched world (take (k + 1) unions.now) self.new) }
-        ensures looks { OnOk result ((union : UnionOf) → slice_get unions.now k ≡ Some union → LooksAtUnion world (take k unions.now) union literals.new.items differs.new.items) }
+        requires watched { (world : World) × IsWatched world (take k unions.now) self.old × AreLed world unions.now }
+        ensures watched { OnOk result ((world : World) → IsWatched world (take k unions.now) self.old → AreLed world unions.now → IsWatched world (take (k + 1) unions.now) self.new) }
+        ensures looks { OnOk result ((world : World) → IsWatched world (take k unions.now) self.old → AreLed world unions.now → (union : UnionOf) → slice_get unions.now k ≡ Some union → LooksAtUnion world (take k unions.now) union literals.new.items differs.new.items) }
         ensures literals { OnOk result (Gathers literals.old.items literals.new.items) }
         ensures differs { OnOk result (Gathers differs.old.items differs.new.items) }
+        ensures literals_below { OnOk result ((count : ℕ) → ItemsBelow count self.old.literals.chains → All (λ item. item < count) literals.old.items → All (λ item. item < count) literals.new.items) }
+        ensures differs_below { OnOk result ((count : ℕ) → ItemsBelow count self.old.differs.chains → All (λ item. item < count) differs.old.items → All (λ item. item < count) differs.new.items) }
         ensures items { OnOk result (KeepsItems self.old self.new) }
         ensures back { CanGoBack self.old self.new }
     {
-        let union = unions.get(k);
+        let union = unions[k];
         let (moved, kept) = sides(self, union.left, union.right);
         gather(&self.literals.chains, moved, literals)?;
         gather(&self.differs.chains, moved, differs)?;
@@ -120,15 +120,15 @@ impl Watch {
     /// Does what is done after each of the unions. A refusal is want of memory or of room, and a part may have been done then.
     fn try_unions(
         &mut self,
-        unions: &Unions,
+        unions: &[Union],
         literals: &mut Vec<u32>,
         differs: &mut Vec<u32>,
     ) -> Result<(), AllocError>
-        ghost world: { World }
-        requires watched { IsWatched world [] self.old }
-        requires led { AreLed world unions.now }
-        ensures watched { OnOk result (IsWatched world unions.now self.new) }
-        ensures looks { OnOk result (LooksAtUnions world unions.now (length unions.now) literals.new.items differs.new.items) }
+        requires { (world : World) × IsWatched world [] self.old × AreLed world unions.now }
+        ensures watched { OnOk result ((world : World) → IsWatched world [] self.old → AreLed world unions.now → IsWatched world unions.now self.new) }
+        ensures looks { OnOk result ((world : World) → IsWatched world [] self.old → AreLed world unions.now → LooksAtUnions world unions.now (length unions.now) literals.new.items differs.new.items) }
+        ensures literals_below { OnOk result ((count : ℕ) → ItemsBelow count self.old.literals.chains → All (λ item. item < count) literals.old.items → All (λ item. item < count) literals.new.items) }
+        ensures differs_below { OnOk result ((count : ℕ) → ItemsBelow count self.old.differs.chains → All (λ item. item < count) differs.old.items → All (λ item. item < count) differs.new.items) }
         ensures items { OnOk result (KeepsItems self.old self.new) }
         ensures back { CanGoBack self.old self.new }
     {
@@ -142,15 +142,15 @@ impl Watch {
     /// and joins the chains. A refusal is want of memory or of room, and the watch is as before then.
     pub fn after_unions(
         &mut self,
-        unions: &Unions,
+        unions: &[Union],
         literals: &mut Vec<u32>,
         differs: &mut Vec<u32>,
     ) -> Result<(), AllocError>
-        ghost world: { World }
-        requires watched { IsWatched world [] self.old }
-        requires led { AreLed world unions.now }
-        ensures watched { OnOk result (IsWatched world unions.now self.new) }
-        ensures looks { OnOk result (LooksAtUnions world unions.now (length unions.now) literals.new.items differs.new.items) }
+        requires { (world : World) × IsWatched world [] self.old × AreLed world unions.now }
+        ensures watched { OnOk result ((world : World) → IsWatched world [] self.old → AreLed world unions.now → IsWatched world unions.now self.new) }
+        ensures looks { OnOk result ((world : World) → IsWatched world [] self.old → AreLed world unions.now → LooksAtUnions world unions.now (length unions.now) literals.new.items differs.new.items) }
+        ensures literals_below { OnOk result ((count : ℕ) → ItemsBelow count self.old.literals.chains → All (λ item. item < count) literals.old.items → All (λ item. item < count) literals.new.items) }
+        ensures differs_below { OnOk result ((count : ℕ) → ItemsBelow count self.old.differs.chains → All (λ item. item < count) differs.old.items → All (λ item. item < count) differs.new.items) }
         ensures items { OnOk result (KeepsItems self.old self.new) }
         ensures err { OnErr result (self.new ≡ self.old) }
         ensures back { CanGoBack self.old self.new }

@@ -1,24 +1,23 @@
-use Rattle.std.proofs.Common.{◌++◌, ◌∷◌, [], List, take, sym, subst}
+use Rattle.std.proofs.Common.{◌++◌, ◌∷◌, [], List, take, slice_index_or, sym, subst}
+use Rattle.std.proofs.lemmas.Option.{slice_get-get_or}
 use Rattle.graph_meaning.specs.declared.union.Union.{Union}
-use Rattle.graph_meaning.specs.Unions.{Generated}
-use Rattle.graph_meaning.specs.Unions.{WasSame}
+use Rattle.graph_meaning.specs.Unions.{Generated, WasSame, union_of}
 use Rattle.search_watch.specs.Chains.{Chained}
 use Rattle.search_watch.specs.Covers.{Covers}
 use Rattle.search_watch.specs.Watched.{classes, HaveChains, LooksAtUnion}
 use Rattle.search_watch.proofs.CoverLemmas.{join_covers}
-use Rattle.search_watch.proofs.WatchLemmas.{chains_stand, gathers, finds, looks_at, moved_least, both_stand, take_next, same_union, items_joined}
+use Rattle.search_watch.proofs.WatchLemmas.{chains_stand, gathers, finds, looks_at, moved_least, both_stand, take_next, same_union, items_joined, found_below}
 use Rattle.search_watch.proofs.watch.Watch.after_union.Goals as goal
 
 pub returns-clause-watched : goal.returns-clause-watched
-returns-clause-watched g c =
-    let w = g.world' in
-    let watched = c.requires.1.0 in
+returns-clause-watched c = λ w watched leads.
     let unions = c.args.unions.now in
-    let union = c.get-union.result.now in
-    let led = c.requires.1.1 c.args.k union c.get-union.ensures in
+    let union : Union = slice_index_or unions c.args.k (union_of 0 0) in
+    let stands = slice_get-get_or unions c.args.k (union_of 0 0) c.requires.stands in
+    let led = leads c.args.k union stands in
     let sides = c.sides-moved.ensures in
     let stand = both_stand w.terms union _ _ led.left led.right sides in
-    let next = take_next unions c.args.k union c.get-union.ensures in
+    let next = take_next unions c.args.k union stands in
     let now = λ (s : Chained). Covers (Generated (WasSame w.standing w.terms) (take c.args.k unions ++ union ∷ [])) w.literal_ends s in
     let now' = λ (s : Chained). Covers (Generated (WasSame w.standing w.terms) (take c.args.k unions ++ union ∷ [])) w.differ_ends s in
     let of = λ (us : List Union). Covers (Generated (WasSame w.standing w.terms) us) w.literal_ends c.join.new.self.chains in
@@ -32,26 +31,43 @@ returns-clause-watched g c =
     }
 
 pub returns-clause-looks : goal.returns-clause-looks
-returns-clause-looks g c = λ other at.
-    let w = g.world' in
-    let watched = c.requires.1.0 in
+returns-clause-looks c = λ w watched leads other at.
     let unions = c.args.unions.now in
-    let union = c.get-union.result.now in
-    let led = c.requires.1.1 c.args.k union c.get-union.ensures in
+    let union : Union = slice_index_or unions c.args.k (union_of 0 0) in
+    let stands = slice_get-get_or unions c.args.k (union_of 0 0) c.requires.stands in
+    let led = leads c.args.k union stands in
     let sides = c.sides-moved.ensures in
     let least = moved_least (classes w (take c.args.k unions)) union _ _ led.leads sides in
     let looks = looks_at w (take c.args.k unions) union _ _ c.gather.new.found.items c.gather-2.new.found.items sides
     (finds (classes w (take c.args.k unions)) w.literal_ends c.args.self.now.literals.chains _ c.args.literals.now.items c.gather.new.found.items watched.literals least c.in_ok-gather.ensures)
     (finds (classes w (take c.args.k unions)) w.differ_ends c.args.self.now.differs.chains _ c.args.differs.now.items c.gather-2.new.found.items watched.differs least c.in_ok-gather-2.ensures) in
-    subst (λ (u : Union). LooksAtUnion w (take c.args.k unions) u c.gather.new.found.items c.gather-2.new.found.items) (same_union unions c.args.k union other c.get-union.ensures at) looks
+    subst (λ (u : Union). LooksAtUnion w (take c.args.k unions) u c.gather.new.found.items c.gather-2.new.found.items) (same_union unions c.args.k union other stands at) looks
 
 pub returns-clause-literals : goal.returns-clause-literals
-returns-clause-literals g c = gathers c.args.literals.now.items c.gather.new.found.items _ c.in_ok-gather.ensures
+returns-clause-literals c = gathers c.args.literals.now.items c.gather.new.found.items _ c.in_ok-gather.ensures
 
 pub returns-clause-items : goal.returns-clause-items
-returns-clause-items g c =
-    let watched = c.requires.1.0 in
-    let led = c.requires.1.1 c.args.k c.get-union.result.now c.get-union.ensures in
-    let stand = both_stand g.world'.terms c.get-union.result.now _ _ led.left led.right c.sides-moved.ensures in
+returns-clause-items c =
+    let world = c.requires.watched.0 in
+    let watched = c.requires.watched.1 in
+    let unions = c.args.unions.now in
+    let union : Union = slice_index_or unions c.args.k (union_of 0 0) in
+    let led = c.requires.watched.2 c.args.k union (slice_get-get_or unions c.args.k (union_of 0 0) c.requires.stands) in
+    let stand = both_stand world.terms union _ _ led.left led.right c.sides-moved.ensures in
     items_joined c.args.self.now (record { literals = c.join.new.self; differs = c.join-2.new.self }) _ _ (watched.literals_stand _ stand.1) (watched.differs_stand _ stand.1)
     c.in_ok-join.ensures.ok c.in_ok-join-2.ensures.ok
+
+pub join-requires-2-clause-kept : goal.join-requires-2-clause-kept
+join-requires-2-clause-kept c =
+    let world = c.requires.watched.0 in
+    let unions = c.args.unions.now in
+    let union : Union = slice_index_or unions c.args.k (union_of 0 0) in
+    let led = c.requires.watched.2 c.args.k union (slice_get-get_or unions c.args.k (union_of 0 0) c.requires.stands) in
+    let stand = both_stand world.terms union _ _ led.left led.right c.sides-moved.ensures in
+    c.requires.watched.1.differs_stand _ stand.1
+
+pub returns-clause-literals_below : goal.returns-clause-literals_below
+returns-clause-literals_below c = λ count below all. found_below c.args.self.now.literals.chains _ count c.args.literals.now.items c.gather.new.found.items c.in_ok-gather.ensures below all
+
+pub returns-clause-differs_below : goal.returns-clause-differs_below
+returns-clause-differs_below c = λ count below all. found_below c.args.self.now.differs.chains _ count c.args.differs.now.items c.gather-2.new.found.items c.in_ok-gather-2.ensures below all
