@@ -1,12 +1,9 @@
 -- Units, open and stuck disjunctions by what is given are those in the branch.
-use Rattle.std.proofs.Common.{◌≡◌, ℕ, ◌<◌, Bool, true, false, List, [], length, slice_get, Some, Contains, refl, sym, ap}
-use Rattle.std.proofs.Common.{subst, ◌∙◌}
-use Rattle.std.proofs.lemmas.Option.{same_Some, slice_get-get_or, slice_get_within, get_or_from_slice_get}
+use Rattle.std.proofs.Common.{◌≡◌, ℕ, ◌<◌, Bool, true, false, List, [], length, Contains, refl, sym, subst}
+use Rattle.std.proofs.lemmas.Option.{slice_get-get_or, slice_get_within, get_or_from_slice_get}
 use Rattle.std.proofs.lemmas.List.Elements.{Contains-get_or}
-use Rattle.formula_table.specs.declared.node.Node.{Node}
 use Rattle.formula_table.specs.declared.node.Node.TheVariants.{Or}
 use Rattle.formula_table.specs.Formulas.{Formulas, IsFormulaTable}
-use Rattle.formula_value.specs.Holds.{HasNode}
 use Rattle.search_board.specs.declared.kind.Kind.TheVariants.{Or as OrKind}
 use Rattle.search_values.specs.Given as by_nodes
 use Rattle.search_values.specs.Given.{Given, HasPlace, HasYes, kind_of, parts_of, part_of}
@@ -45,6 +42,9 @@ module _ (formulas : Formulas) (branch : Branch) (given : Given) (table : IsForm
   its_parts n parts is_or = sym (parts_is formulas branch.held branch.struck given is n (Or parts) is_or.has)
 
   module _ (n : ℕ) (is_or : kind_of given n ≡ OrKind) where
+    part_below : (i : ℕ) → HasPlace given n i → part_of given n i < length formulas.nodes
+    part_below i place = below formulas branch given table is n i (stands n is_or) place
+
     -- a place left over
     pub left_to : (i : ℕ) → by_nodes.IsLeftOver given n i →
         IsLeftOver formulas branch n (parts_of given n) i (part_of given n i)
@@ -64,8 +64,7 @@ module _ (formulas : Formulas) (branch : Branch) (given : Given) (table : IsForm
         record {
           place = place;
           not_no = λ denied. left.not_no (subst (IsNoIn formulas branch) (part_is i part left)
-              (no_to formulas branch given table is (below formulas branch given table is n i (stands n is_or) place)
-              denied));
+              (no_to formulas branch given table is (part_below i place) denied));
           not_struck = not_true (given.struck n i)
               (λ on. left.not_struck ((is.struck_are n i (stands n is_or)).0 on));
         }
@@ -73,25 +72,24 @@ module _ (formulas : Formulas) (branch : Branch) (given : Given) (table : IsForm
     -- no part is Yes
     pub no_yes_from : HasNoYesPart formulas branch (parts_of given n) → by_nodes.HasNoYesPart given n
     no_yes_from none i place known = none (part_of given n i) (Contains-get_or (parts_of given n) i 0 place)
-        (yes_to formulas branch given table is (below formulas branch given table is n i (stands n is_or) place) known)
+        (yes_to formulas branch given table is (part_below i place) known)
 
     -- whether a part is asserted
     asserted_to : (i : ℕ) → HasPlace given n i → given.asserted (part_of given n i) ≡ false →
         Contains branch.held.asserted (part_of given n i) → ⊥
     asserted_to i place off listed = both (given.asserted (part_of given n i))
-        ((is.asserted (part_of given n i) (below formulas branch given table is n i (stands n is_or) place)).1 listed) off
+        ((is.asserted (part_of given n i) (part_below i place)).1 listed) off
 
     asserted_from : (i : ℕ) → HasPlace given n i → (Contains branch.held.asserted (part_of given n i) → ⊥) →
         given.asserted (part_of given n i) ≡ false
-    asserted_from i place other = not_true (given.asserted (part_of given n i)) (λ on.
-        other ((is.asserted (part_of given n i) (below formulas branch given table is n i (stands n is_or) place)).0 on))
+    asserted_from i place other = not_true (given.asserted (part_of given n i))
+        (λ on. other ((is.asserted (part_of given n i) (part_below i place)).0 on))
 
     unit_over : (part : ℕ) (unit : IsUnit formulas branch n part) → unit.parts ≡ parts_of given n →
         (i : ℕ) × by_nodes.IsUnit given n i
     unit_over part unit same =
         let left = subst (λ (parts : List ℕ). IsLeftOver formulas branch n parts unit.place part) same unit.left in
-        let here = left_from unit.place part left in
-        (
+        let here = left_from unit.place part left in (
           unit.place,
           record {
             is_or = or_from n unit.parts unit.is_or;

@@ -1,5 +1,5 @@
 -- What the value of a leaf says of what is known.
-use Rattle.std.proofs.Common.{◌≡◌, ℕ, Bool, true, false, List, refl}
+use Rattle.std.proofs.Common.{◌≡◌, ℕ, true, false, List, refl}
 use Rattle.graph_meaning.specs.declared.done.Done.{Done}
 use Rattle.graph_meaning.specs.Same.{Same}
 use Rattle.graph_meaning.specs.Known.{known_of}

@@ -1,5 +1,5 @@
 -- The next step by what is given is that in the branch.
-use Rattle.std.proofs.Common.{◌≡◌, ℕ, ◌<◌, inl, inr, List, [], length}
+use Rattle.std.proofs.Common.{◌≡◌, ℕ, ◌<◌, inl, inr, [], length}
 use Rattle.formula_table.specs.Formulas.{Formulas, IsFormulaTable}
 use Rattle.search_values.specs.Given as by_nodes
 use Rattle.search_values.specs.Given.{Given, parts_of, part_of}

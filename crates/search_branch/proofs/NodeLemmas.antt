@@ -1,5 +1,5 @@
 -- The nodes that are given are those of the table.
-use Rattle.std.proofs.Common.{zero, suc, ◌≡◌, ℕ, ◌<◌, true, List, [], ◌∷◌, length, map, slice_get, slice_index_or, Some}
+use Rattle.std.proofs.Common.{zero, suc, ◌≡◌, ℕ, ◌<◌, true, List, [], ◌∷◌, length, slice_index_or, Some}
 use Rattle.std.proofs.Common.{All, Contains, refl, sym, ap, subst, ◌∙◌, arith}
 use Rattle.std.proofs.lemmas.Option.{slice_get-get_or, slice_get_within, get_or_from_slice_get}
 use Rattle.std.proofs.lemmas.List.{get_or-map, length-map}

@@ -1,5 +1,5 @@
 -- The values that are given are those in the branch.
-use Rattle.std.proofs.Common.{◌≡◌, ℕ, ◌<◌, List, [], length, slice_get, Some, Contains, sym, ap, subst, ◌∙◌, arith}
+use Rattle.std.proofs.Common.{◌≡◌, ℕ, ◌<◌, List, [], length, Some, Contains, sym, ap, subst, ◌∙◌, arith}
 use Rattle.std.proofs.lemmas.List.Elements.{Contains-get_or}
 use Rattle.formula_table.specs.declared.node.Node.{Node}
 use Rattle.formula_table.specs.declared.node.Node.TheVariants.{And, Or, Forall}
@@ -8,8 +8,7 @@ use Rattle.formula_truth.specs.declared.truth.Truth.{Truth}
 use Rattle.formula_truth.specs.declared.truth.Truth.TheVariants.{Yes, No}
 use Rattle.formula_value.specs.Holds as formulas_hold
 use Rattle.formula_value.specs.Holds.{HasNode}
-use Rattle.search_board.specs.declared.kind.Kind.TheVariants.{Leaf as LeafKind, And as AndKind, Or as OrKind}
-use Rattle.search_values.specs.Given.{Given, HasPlace, HasYes, HasNo, kind_of, parts_of, part_of}
+use Rattle.search_values.specs.Given.{Given, HasPlace, HasYes, HasNo, parts_of, part_of}
 use Rattle.search_laws.specs.Branch.{Branch, live_in, IsYesIn, IsNoIn}
 use Rattle.search_branch.specs.Given.{IsGivenBy, IsLeafTruth}
 use Rattle.search_branch.proofs.LeafLemmas.{leaf_yes_to, leaf_no_to, leaf_yes_from, leaf_no_from}
@@ -31,7 +30,8 @@ module _ (formulas : Formulas) (branch : Branch) (given : Given) (table : IsForm
   pub place_among : (n i : ℕ) (parts : List ℕ) → parts_of given n ≡ parts → HasPlace given n i →
       Contains parts (part_of given n i)
   place_among n i parts same place =
-      subst (λ (parts : List ℕ). Contains parts (part_of given n i)) same (Contains-get_or (parts_of given n) i 0 place)
+      subst (λ (parts : List ℕ). Contains parts (part_of given n i)) same
+      (Contains-get_or (parts_of given n) i 0 place)
 
   -- a leaf by its value
   leaf_is : (n : ℕ) (node : Node) (truth : Truth) → HasNode formulas.nodes n node → given.leaf n ≡ truth →
@@ -74,15 +74,17 @@ module _ (formulas : Formulas) (branch : Branch) (given : Given) (table : IsForm
 
   -- one that is known to be false has the value No
   pub no_from : {n : ℕ} → IsNoIn formulas branch n → HasNo given n
-  no_from {n = n} (formulas_hold.Fails.literal {n} {node} has known) = HasNo.leaf
+  no_from (formulas_hold.Fails.literal {n} {node} has known) = HasNo.leaf
       (kind_is formulas branch.held branch.struck given is n node has
       ∙ no_leaf_kind branch.held.graph.standing (live_in formulas branch) node known)
-      (leaf_no_from branch.held.graph.standing (live_in formulas branch) node (given.leaf n) (is.leaf n node has) known)
-  no_from {n = n} (formulas_hold.Fails.some {n} {part} {parts} has among denied) =
-      let at = among_place n part parts (parts_is formulas branch.held branch.struck given is n (And parts) has) among in
+      (leaf_no_from branch.held.graph.standing (live_in formulas branch) node (given.leaf n)
+      (is.leaf n node has) known)
+  no_from (formulas_hold.Fails.some {n} {part} {parts} has among denied) =
+      let at = among_place n part parts (parts_is formulas branch.held branch.struck given is n (And parts) has)
+      among in
       HasNo.some {i = at.0} (kind_is formulas branch.held branch.struck given is n (And parts) has) at.1
       (subst (HasNo given) (sym at.2) (no_from denied))
-  no_from {n = n} (formulas_hold.Fails.every {n} {parts} has each) =
+  no_from (formulas_hold.Fails.every {n} {parts} has each) =
       HasNo.every (kind_is formulas branch.held branch.struck given is n (Or parts) has) (λ i place.
       no_from (each (part_of given n i) (place_among n i parts
       (parts_is formulas branch.held branch.struck given is n (Or parts) has) place)))
@@ -97,17 +99,17 @@ module _ (formulas : Formulas) (branch : Branch) (given : Given) (table : IsForm
 
     -- one that is known to be true has the value Yes
     pub yes_from : {n : ℕ} → IsYesIn formulas branch n → HasYes given n
-    yes_from {n = n} (formulas_hold.Holds.literal {n} {node} has known) = HasYes.leaf
+    yes_from (formulas_hold.Holds.literal {n} {node} has known) = HasYes.leaf
         (kind_is formulas branch.held branch.struck given is n node has
         ∙ yes_leaf_kind branch.held.graph.standing (live_in formulas branch) node known)
         (leaf_yes_from branch.held.graph.standing (live_in formulas branch) node (given.leaf n)
         (no_forall n node has) (is.leaf n node has) known)
-    yes_from {n = n} (formulas_hold.Holds.some {n} {part} {parts} has among known) =
+    yes_from (formulas_hold.Holds.some {n} {part} {parts} has among known) =
         let at = among_place n part parts (parts_is formulas branch.held branch.struck given is n (Or parts) has)
         among in
         HasYes.some {i = at.0} (kind_is formulas branch.held branch.struck given is n (Or parts) has) at.1
         (subst (HasYes given) (sym at.2) (yes_from known))
-    yes_from {n = n} (formulas_hold.Holds.every {n} {parts} has each) =
+    yes_from (formulas_hold.Holds.every {n} {parts} has each) =
         HasYes.every (kind_is formulas branch.held branch.struck given is n (And parts) has) (λ i place.
         yes_from (each (part_of given n i) (place_among n i parts
         (parts_is formulas branch.held branch.struck given is n (And parts) has) place)))

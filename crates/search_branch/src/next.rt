@@ -1,7 +1,6 @@
 //! The next step by the values of nodes.
-ghost use Rattle.std.specs.Prelude.{◌≡◌, ℕ, [], List, length};
+ghost use Rattle.std.specs.Prelude.{◌≡◌, [], length};
 ghost use Rattle.formula_table.specs.Formulas.{Formulas, IsFormulaTable};
-ghost use Rattle.formula_assert.specs.Held.{Held};
 ghost use Rattle.search_values.specs.Kept.{given_of};
 ghost use Rattle.search_watch.specs.Service.{HasClash};
 ghost use Rattle.search_branch.specs.Given.{IsGivenBy};
