@@ -2,11 +2,11 @@
 use Rattle.std.proofs.Common.{◌≡◌, ℕ, ◌<◌, inl, inr, [], length}
 use Rattle.formula_table.specs.Formulas.{Formulas, IsFormulaTable}
 use Rattle.search_values.specs.Given as by_nodes
-use Rattle.search_values.specs.Given.{Given, parts_of, part_of}
+use Rattle.search_values.specs.Given.{Given, part_of}
 use Rattle.search_watch.specs.Service.{HasClash}
 use Rattle.search_laws.specs.Branch.{Branch}
 use Rattle.search_laws.specs.Closing as closing
-use Rattle.search_laws.specs.Closing.{Conflict, HasNoOpen}
+use Rattle.search_laws.specs.Closing.{Conflict}
 use Rattle.search_branch.specs.declared.step.Step.TheVariants.{Lost, Assert, Split, WayOut}
 use Rattle.search_branch.specs.Given.{IsGivenBy}
 use Rattle.search_branch.specs.Steps.{HasNoConflict, HasNoUnit, IsStep}
