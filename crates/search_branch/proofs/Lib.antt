@@ -1,0 +1,5 @@
+pub mod LeafLemmas
+pub mod NodeLemmas
+pub mod ValueLemmas
+pub mod ChoiceLemmas
+pub mod NextLemmas

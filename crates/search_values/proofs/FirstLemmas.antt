@@ -3,17 +3,34 @@ use Rattle.std.proofs.Common.{zero, suc, ◌≡◌, ◌<◌, ◌⊎◌, inl, inr
 use Rattle.std.proofs.Math.ListN.{length-set}
 use Rattle.formula_truth.specs.declared.truth.Truth.{Truth}
 use Rattle.formula_truth.specs.Joins.{AreJoins}
+use Rattle.search_board.specs.declared.kind.Kind.{Kind}
+use Rattle.search_board.specs.declared.kind.Kind.TheVariants.{Or}
+use Rattle.formula_truth.specs.declared.truth.Truth.TheVariants.{Yes, No, Unset}
 use Rattle.search_board.specs.declared.place.Place.{Place}
-use Rattle.search_board.specs.Places.{is_left_place, counts_of}
+use Rattle.search_board.specs.Places.{is_left_place, counts_of, open_test}
 use Rattle.search_board.specs.Values.{value_of}
 use Rattle.search_board.specs.Board.{Shown, blank, kind_at, truth_at, asserted_at, places_at, place_at, with_place, unit_at, open_at, stuck_at, NonePasses, IsFirstPassing}
 use Rattle.search_values.specs.Wiring.{Wires, part_at}
 use Rattle.search_values.specs.Settled.{told_by, Grows}
-use Rattle.search_values.specs.Given.{IsFirstUnit, IsUnit, IsOpen, IsSplit, IsStuck}
+use Rattle.search_values.specs.Given.{Given, kind_of, HasYes, HasYesPart, IsAssertedOr, IsFirstUnit, IsUnit, IsOpen, IsSplit, IsStuck}
 use Rattle.search_values.specs.GivenBy.{given_by}
 use Rattle.search_values.specs.KeptInside.{IsRight}
 use Rattle.search_values.proofs.ListLemmas.{get-set_same, get-set_other, same_or_not, list_within}
-use Rattle.search_values.proofs.UnitLemmas.{unit_case, unit_by, unit_on, open_case, open_by, open_on, stuck_back, stuck_by, stuck_on, left_by, left_on}
+use Rattle.search_values.proofs.ValueLemmas.{yes_by}
+use Rattle.search_values.proofs.UnitLemmas.{or_stands, unit_case, unit_by, unit_on, open_back, open_case, open_by, open_on, stuck_back, stuck_by, stuck_on, left_by, left_on}
+
+-- a disjunction that is Yes has a Yes part
+yes_part : (given : Given) (n : ℕ) → kind_of given n ≡ Or → HasYes given n → HasYesPart given n
+yes_part given n is_or (HasYes.leaf is_leaf e) = cc
+yes_part given n is_or (HasYes.every is_and each) = cc
+yes_part given n is_or (HasYes.some {i = i} is place has) = (i, place, has)
+
+-- an asserted disjunction that is not open is Yes
+yes_else : (kind : Kind) (truth : Truth) (asserted : Bool) → kind ≡ Or → asserted ≡ true →
+    open_test kind truth asserted ≡ false → truth ≡ Yes
+yes_else kind Yes asserted is_or is_asserted e = refl
+yes_else kind No asserted is_or is_asserted e = let f = open_back kind No asserted is_or is_asserted refl in cc
+yes_else kind Unset asserted is_or is_asserted e = let f = open_back kind Unset asserted is_or is_asserted refl in cc
 
 module _ (joins : AreJoins) (wires : Wires) (s : Shown) (right : IsRight wires s) where
   pub unit_has_left : (n : ℕ) → unit_at s n ≡ true → 0 < count_by is_left_place (places_at s n)
@@ -36,6 +53,14 @@ module _ (joins : AreJoins) (wires : Wires) (s : Shown) (right : IsRight wires s
 
   pub no_open : NonePasses (open_at s) → (n : ℕ) → IsOpen (given_by wires s) n → ⊥
   no_open none n is = let e = open_on joins wires s right.wired right.are right.settled n is in let f = none n in cc
+
+  -- where none is open each has a Yes part
+  pub each_yes : NonePasses (open_at s) → (n : ℕ) → IsAssertedOr (given_by wires s) n → HasYesPart (given_by wires s) n
+  each_yes none n is =
+      let within = or_stands joins wires s right.wired right.are right.settled n is.is_or in
+      let e = yes_else (kind_at s n) (truth_at s n) (asserted_at s n) is.is_or is.asserted (none n) in
+      yes_part (given_by wires s) n is.is_or
+      (yes_by joins wires s right.wired right.are right.settled (suc n) n (omega arith) within e)
 
   -- an open disjunction that isn't stuck has something left over
   pub open_has_left : ((n : ℕ) → IsStuck (given_by wires s) n → ⊥) → (n : ℕ) → open_at s n ≡ true → 0 < count_by is_left_place (places_at s n)

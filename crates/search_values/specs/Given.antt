@@ -66,6 +66,10 @@ pub record IsLeftOver (given : Given) (n i : ℕ) : Type 0 where
 abbrev pub HasNoYesPart : Given → ℕ → Type 0
 HasNoYesPart given n = (i : ℕ) → HasPlace given n i → HasYes given (part_of given n i) → ⊥
 
+-- some part is Yes
+abbrev pub HasYesPart : Given → ℕ → Type 0
+HasYesPart given n = (i : ℕ) × HasPlace given n i × HasYes given (part_of given n i)
+
 -- an asserted disjunction without a Yes part, whose one part left over isn't asserted
 pub record IsUnit (given : Given) (n i : ℕ) : Type 0 where
   pub is_or : IsAssertedOr given n

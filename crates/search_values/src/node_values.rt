@@ -2,7 +2,7 @@
 ghost use Rattle.std.specs.Prelude.{◌≡◌, ℕ, ◌+◌, ◌^◌, ◌<◌, ◌≤◌, length, All, IfOk, IfSome, IfNone, MatchOption, OnOk, OnErr, [], ◌∷◌, ◌++◌};
 ghost use Rattle.formula_truth.specs.declared.truth.Truth.TheVariants.{Unset};
 ghost use Rattle.search_board.specs.declared.kind.Kind.TheVariants.{Leaf};
-ghost use Rattle.search_values.specs.Given.{HasValue, HasPlace, kind_of, parts_of, part_of, IsFirstUnit, IsUnit, IsOpen, IsSplit, IsStuck};
+ghost use Rattle.search_values.specs.Given.{HasValue, HasPlace, HasYesPart, kind_of, parts_of, part_of, IsAssertedOr, IsFirstUnit, IsUnit, IsOpen, IsSplit, IsStuck};
 ghost use Rattle.search_values.specs.Changes.{SetsLeaf, Asserts, Strikes, EntersNode};
 ghost use Rattle.search_values.specs.Kept.{given_of, no_values, pushed, popped};
 ghost use Rattle.search_values.specs.Entered.{ArePlaces, NoneStruck};
@@ -180,11 +180,12 @@ impl NodeValues {
     }
 
     /// The first asserted disjunction without a Yes part, and its first place that is neither No nor struck, or `None`
-    /// where there is no such disjunction. None may be stuck.
+    /// where there is no such disjunction: each that is asserted has a Yes part. None may be stuck.
     pub fn first_open(&self) -> Option<Up>
         requires { (n : ℕ) → IsStuck (given_of self.now) n → ⊥ }
         ensures some { IfSome result (λ at. IsSplit (given_of self.now) at.node at.place) }
         ensures none { IfNone result ((n : ℕ) → IsOpen (given_of self.now) n → ⊥) }
+        ensures settled { IfNone result ((n : ℕ) → IsAssertedOr (given_of self.now) n → HasYesPart (given_of self.now) n) }
     {
         joining_law();
         match self.noted.board.first_open() {

@@ -1,8 +1,8 @@
 use Rattle.std.proofs.Common.{ℕ, subst, sym}
 use Rattle.search_values.specs.History.{now}
-use Rattle.search_values.specs.Given.{IsOpen, IsSplit, IsStuck}
+use Rattle.search_values.specs.Given.{HasYesPart, IsAssertedOr, IsOpen, IsSplit, IsStuck}
 use Rattle.search_values.specs.Kept.{Kept, given_of}
-use Rattle.search_values.proofs.FirstLemmas.{no_open, open_has_left, split_is}
+use Rattle.search_values.proofs.FirstLemmas.{each_yes, no_open, open_has_left, split_is}
 use Rattle.search_values.proofs.node_values.NodeValues.first_open.Goals as goal
 
 pub first_left-place-requires-clause-some : goal.first_left-place-requires-clause-some
@@ -19,3 +19,8 @@ pub returns-in-None-clause-none : goal.returns-in-None-clause-none
 returns-in-None-clause-none c =
     let K : Kept → Type 0 = λ k. (n : ℕ) → IsOpen (given_of k) n → ⊥ in
     subst K c.self.view_is (no_open c.joining_law.ensures c.self.inside.wiring (now c.self.inside.noted) c.self.invariant.right c.in-None.ensures)
+
+pub returns-in-None-clause-settled : goal.returns-in-None-clause-settled
+returns-in-None-clause-settled c =
+    let K : Kept → Type 0 = λ k. (n : ℕ) → IsAssertedOr (given_of k) n → HasYesPart (given_of k) n in
+    subst K c.self.view_is (each_yes c.joining_law.ensures c.self.inside.wiring (now c.self.inside.noted) c.self.invariant.right c.in-None.ensures)
