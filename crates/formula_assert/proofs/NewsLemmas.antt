@@ -1,9 +1,12 @@
 -- Unions that came one after another, and operations that make none.
-use Rattle.std.proofs.Common.{◌≡◌, ◌⊎◌, inl, inr, ⊎_elim, ℕ, zero, suc, ◌+◌, ◌<◌, ◌≤◌, true, false, List, [], ◌∷◌, ◌++◌, length, take, map, slice_get, Some, Result, Ok, Err, All, Contains, refl, sym, ap, subst, ◌∙◌, append-nil, append_assoc, arith}
+use Rattle.std.proofs.Common.{◌≡◌, ◌⊎◌, inl, inr, ⊎_elim, ℕ, zero, suc, ◌+◌, ◌<◌, true, false, List, [], ◌∷◌, ◌++◌}
+use Rattle.std.proofs.Common.{length, take, map, slice_get, Some, Result, Ok, Err, All, Contains, refl, sym, ap, subst, ◌∙◌}
+use Rattle.std.proofs.Common.{append-nil, append_assoc, arith}
 use Rattle.std.specs.Prelude.{OnOk}
 use Rattle.std.proofs.Math.Seq.{take-append-add}
 use Rattle.std.proofs.lemmas.List.{take-append-le}
-use Rattle.std.proofs.lemmas.List.Elements.{All-head, All-tail, Contains-append_left, Contains-append_right, Contains-append_cases}
+use Rattle.std.proofs.lemmas.List.Elements.{All-head, All-tail}
+use Rattle.std.proofs.lemmas.List.Elements.{Contains-append_left, Contains-append_right, Contains-append_cases}
 use Rattle.std.proofs.lemmas.Option.{none-some, slice_get_within}
 use Rattle.graph_trigger.specs.declared.trigger.Trigger.{Trigger}
 use Rattle.graph_terms.specs.declared.term_row.TermRow.{TermRow}
@@ -15,7 +18,8 @@ use Rattle.graph_meaning.proofs.LawfulLaws.{then_op, terms_of-push, merges_of-pu
 use Rattle.graph_meaning.specs.Same.{Same, Derives, same_term, turned as turned_same, joined as joined_same}
 use Rattle.graph_meaning.specs.Standing.{terms_of, merges_of, differs_of, differs_added}
 use Rattle.graph_meaning.specs.State.{GraphState, replay, state_after}
-use Rattle.graph_meaning.specs.Unions.{Generated, was, listed, turned, joined, union_of, Leads, AreUnions, WasSame, ListsUnions}
+use Rattle.graph_meaning.specs.Unions.{Generated, was, listed, turned, joined, union_of, Leads, AreUnions, WasSame}
+use Rattle.graph_meaning.specs.Unions.{ListsUnions}
 use Rattle.formula_table.specs.declared.node.Node.{Node}
 use Rattle.formula_table.specs.declared.node.Node.TheVariants.{Equal, Atom, And, Or, Forall}
 use Rattle.formula_table.specs.Formulas.{Formulas}
@@ -64,8 +68,8 @@ module _ (a b c : List Done) (one two : List Union) (same_terms : length (terms_
   later_generate : (later : List Union) (s t : ℕ) → Generated (WasSame a n) (one ++ later) s t →
       Generated (WasSame b n) later s t
   later_generate later s t (was h) = was (inl (first.held s t (was h)))
-  later_generate later s t (listed c) = ⊎_elim (λ early. was (inl (first.held s t (listed early)))) (λ late. listed late)
-      (Contains-append_cases one later (union_of s t) c)
+  later_generate later s t (listed c) = ⊎_elim (λ early. was (inl (first.held s t (listed early))))
+      (λ late. listed late) (Contains-append_cases one later (union_of s t) c)
   later_generate later s t (turned g) = turned (later_generate later t s g)
   later_generate later s t (joined {t = m} g h) = joined (later_generate later s m g) (later_generate later m t h)
 
@@ -95,12 +99,15 @@ module _ (a b c : List Done) (one two : List Union) (same_terms : length (terms_
   all_unions = record {
     generated = λ s t same. all_generate two s t (bc.generated s t same);
     held = λ s t g. bc.held s t (later_generate two s t g);
-    below = λ i u at. ⊎_elim (λ early. first.below i u early) (λ late. bc.below late.0 u late.2) (union_cases one two i u at);
+    below = λ i u at. ⊎_elim (λ early. first.below i u early) (λ late. bc.below late.0 u late.2)
+        (union_cases one two i u at);
     led = λ i u at. ⊎_elim (λ early. subst (LedAt u) (before_first i u early) (first.led i u early))
-        (λ late. subst (LedAt u) (before_later i late.0 late.1) (later_led late.0 u late.2)) (union_cases one two i u at);
+        (λ late. subst (LedAt u) (before_later i late.0 late.1) (later_led late.0 u late.2))
+        (union_cases one two i u at);
     apart = λ i u at. ⊎_elim (λ early. subst (ApartAt u) (before_first i u early) (first.apart i u early))
         (λ late. subst (ApartAt u) (before_later i late.0 late.1)
-        (λ g. bc.apart late.0 u late.2 (later_generate (take late.0 two) u.left u.right g))) (union_cases one two i u at);
+        (λ g. bc.apart late.0 u late.2 (later_generate (take late.0 two) u.left u.right g)))
+        (union_cases one two i u at);
   }
 
 -- further unions, and then more of them
@@ -180,8 +187,8 @@ live_news before after triggers x (Ok u) ok =
     subst (λ (g : GraphState). ListsMore before.standing g.standing x x) (sym ok) (lists_live before triggers x)
 live_news before after triggers x (Err e) ok = tt
 
-pub differ_news : {U E : Type 0} (before after : GraphState) (left right : ℕ) (x : List Union) (result : Result U E) →
-    OnOk result (after ≡ state_after before (Differ left right)) →
+pub differ_news : {U E : Type 0} (before after : GraphState) (left right : ℕ) (x : List Union)
+    (result : Result U E) → OnOk result (after ≡ state_after before (Differ left right)) →
     OnOk result (ListsMore before.standing after.standing x x)
 differ_news before after left right x (Ok u) ok =
     subst (λ (g : GraphState). ListsMore before.standing g.standing x x) (sym ok) (lists_differ before left right x)
@@ -213,7 +220,8 @@ differs_by before (op ∷ ops) each =
     let rest = differs_by (state_after before op) ops (All-tail IsInLevel op ops each) in (
       differs_added op ++ rest.0,
       rest.1
-          ∙ ap (λ (pairs : List (ℕ × ℕ)). pairs ++ rest.0) (one_differs before op (All-head IsInLevel op ops each))
+          ∙ ap (λ (pairs : List (ℕ × ℕ)). pairs ++ rest.0)
+          (one_differs before op (All-head IsInLevel op ops each))
           ∙ append_assoc (differs_of before.standing) (differs_added op) rest.0,
     )
 
