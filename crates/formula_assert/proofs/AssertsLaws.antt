@@ -76,7 +76,7 @@ keeps_all_live graph (trigger ∷ triggers) =
 
 module _ (formulas : Formulas) where
   -- what a node stands for by itself adds no terms
-  keeps_operations : (graph : GraphState) (node : Node) →
+  pub keeps_operations : (graph : GraphState) (node : Node) →
       KeepsTerms graph (replay graph (operations_of formulas node))
   keeps_operations graph (Equal true left right) = keeps_merge graph left right
   keeps_operations graph (Equal false left right) = keeps_differ graph left right

@@ -1,4 +1,5 @@
 pub mod AssertsLaws
+pub mod NewsLemmas
 pub mod OutcomeLaws
 pub mod Growth
 pub mod BackLemmas

@@ -1,4 +1,5 @@
 pub mod Held
+pub mod News
 pub mod Asserts
 pub mod Assertions
 pub mod Tables

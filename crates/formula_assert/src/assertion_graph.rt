@@ -1,13 +1,15 @@
 //! Where formulas are asserted.
-ghost use Rattle.std.specs.Prelude.{◌≡◌, ℕ, ◌<◌, length, OnOk, OnErr};
+ghost use Rattle.std.specs.Prelude.{◌≡◌, ℕ, ◌<◌, ◌++◌, length, OnOk, OnErr};
 ghost use Rattle.graph_meaning.specs.declared.op.Op.{Op as SpecOp};
 ghost use Rattle.graph_meaning.specs.declared.op.Op.TheVariants.{Merge as MergeOp, Differ as DifferOp, Live as LiveOp, Push as PushOp, Pop as PopOp};
 ghost use Rattle.graph_meaning.specs.Lawful.{Allows};
 ghost use Rattle.graph_meaning.specs.Standing.{terms_of, levels_of};
 ghost use Rattle.graph_meaning.specs.State.{GraphState, state_after};
 ghost use Rattle.graph_trigger.specs.Trigger.{IsValid};
+ghost use Rattle.formula_assert.specs.News.{ListsMore};
 
-use graph_meaning::Op;
+use graph_classes::Unions;
+use graph_meaning::{Op, Union};
 use graph_terms::{Memory, TermEntry};
 use graph_trigger::Trigger;
 use match_graph::MatchingGraph;
@@ -24,11 +26,12 @@ pub trait AssertionGraph: TermEntry {
     /// From the earlier state to the later it kept what it keeps while equations, disequations and triggers come.
     ghost kept: { Self → Self → Type 0 };
 
-    /// Merges two terms. Without memory the graph is as before.
-    fn merge(&mut self, left: u32, right: u32) -> Result<(), Memory>
+    /// Merges two terms, and puts the unions that come of it last. Without memory the graph is as before.
+    fn merge(&mut self, left: u32, right: u32, unions: &mut Vec<Union>) -> Result<(), Memory>
         requires left { left < length (terms_of (state self.old).standing) }
         requires right { right < length (terms_of (state self.old).standing) }
         ensures ok { OnOk result (state self.new ≡ state_after (state self.old) (MergeOp left right)) }
+        ensures unions { OnOk result (ListsMore (state self.old).standing (state self.new).standing unions.old.items unions.new.items) }
         ensures err { OnErr result (state self.new ≡ state self.old) }
         ensures keeps { kept self.old self.new };
 
@@ -70,6 +73,16 @@ pub trait AssertionGraph: TermEntry {
     ghost kept_both: { (first second third : Self) → kept first second → kept second third → kept first third };
 }
 
+/// Puts the listed unions last, in order.
+fn put_unions(into: &mut Vec<Union>, unions: &Unions) -> Result<(), Memory>
+    ensures { OnOk result (into.new.items ≡ into.old.items ++ unions.now) }
+{
+    for i in 0..unions.len() {
+        into.push(*unions.get(i))?;
+    }
+    Ok(())
+}
+
 /// Does the operation. After a refusal the graph is as before.
 fn do_operation(graph: &mut MatchingGraph, op: &Op) -> Result<(), Memory>
     requires { Allows graph.old.standing op.now }
@@ -99,8 +112,15 @@ impl AssertionGraph for MatchingGraph {
 
     ghost kept_both = { λ first second third one two. tt };
 
-    fn merge(&mut self, left: u32, right: u32) -> Result<(), Memory> {
-        do_operation(self, &Op::Merge { left, right })
+    fn merge(&mut self, left: u32, right: u32, unions: &mut Vec<Union>) -> Result<(), Memory> {
+        let listed = MatchingGraph::merge(self, left, right)?;
+        match put_unions(unions, &listed) {
+            Ok(()) => Ok(()),
+            Err(refused) => {
+                self.take_back();
+                Err(refused)
+            }
+        }
     }
 
     fn differ(&mut self, left: u32, right: u32) -> Result<(), Memory> {

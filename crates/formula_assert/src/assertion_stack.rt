@@ -1,14 +1,16 @@
 //! The standing assertions.
-ghost use Rattle.std.specs.Prelude.{◌≡◌, ◌<◌, ◌≤◌, ◌++◌, ◌∷◌, [], ℕ, length, slice_get, Some, Contains, ◌↔◌, IsTrue, IfOk, IfErr, OnOk, OnErr};
+ghost use Rattle.std.specs.Prelude.{◌≡◌, ◌<◌, ◌≤◌, ◌++◌, ◌∷◌, [], ℕ, List, length, slice_get, Some, Contains, ◌↔◌, IsTrue, IfOk, IfErr, OnOk, OnErr};
 ghost use Rattle.formula_assert.specs.Assertions.{Assertions, held_of, no_assertions, pushed, popped};
 ghost use Rattle.formula_assert.specs.AssertFormula.{AssertsFormula, StopsAssert};
 ghost use Rattle.formula_table.specs.declared.node.Node.{Node as SpecNode};
 ghost use Rattle.graph_meaning.specs.State.{replay};
+ghost use Rattle.graph_meaning.specs.Standing.{terms_of, differs_of};
 ghost use Rattle.formula_assert.specs.Held.{held, refuting_of};
 ghost use Rattle.formula_assert.specs.Asserts.{Asserts};
 ghost use Rattle.formula_assert.specs.InLevel.{KeepsLevels, HoldsMoreOver};
 ghost use Rattle.formula_assert.specs.Mark.{IsMark};
 ghost use Rattle.formula_assert.specs.Stands.{AreAssertions};
+ghost use Rattle.formula_assert.specs.News.{ListsMore};
 
 use crate::assert_nodes::{assert_node, refute_node};
 use crate::asserted_nodes::AssertedNodes;
@@ -18,7 +20,7 @@ use crate::mark::Mark;
 use crate::take_back::take_back_to;
 use formula_draft::Formula;
 use formula_table::{EnterFault, FormulaTable};
-use graph_meaning::ClassGraph;
+use graph_meaning::{ClassGraph, Union};
 use graph_terms::Memory;
 use match_graph::MatchingGraph;
 use std::alloc::Global;
@@ -107,12 +109,14 @@ impl AssertionStack {
         let asserted = self.asserted.len();
         let root = self.formulas.enter(&mut self.graph, formula)?;
         let version = self.graph.version();
+        let mut unions = Vec::new(self.alloc);
         match assert_node(
             self.alloc,
             &mut self.graph,
             &self.formulas,
             &mut self.asserted,
             root,
+            &mut unions,
         ) {
             Ok(()) => Ok(()),
             Err(_memory) => {
@@ -138,11 +142,14 @@ impl AssertionStack {
         self.asserted.as_slice()
     }
 
-    /// Asserts a node that was entered, with all that it stands for. After want of memory a part of it may stand, which goes
-    /// where a mark is gone back to.
-    pub fn assert_entered(&mut self, n: u32) -> Result<(), Memory>
+    /// Asserts a node that was entered, with all that it stands for, and puts the unions that come of it last. After want of
+    /// memory a part of it may stand, which goes where a mark is gone back to.
+    pub fn assert_entered(&mut self, n: u32, unions: &mut Vec<Union>) -> Result<(), Memory>
         requires { n < length self.old.formulas.nodes }
         ensures ok { OnOk result (Asserts self.old.formulas n (held_of self.old) (held_of self.new)) }
+        ensures unions { OnOk result (ListsMore self.old.graph.standing self.new.graph.standing unions.old.items unions.new.items) }
+        ensures terms { OnOk result (terms_of self.new.graph.standing ≡ terms_of self.old.graph.standing) }
+        ensures differs { OnOk result ((more : List (ℕ × ℕ)) × (differs_of self.new.graph.standing ≡ differs_of self.old.graph.standing ++ more)) }
         ensures more { HoldsMoreOver self.old self.new }
     {
         assert_node(
@@ -151,19 +158,24 @@ impl AssertionStack {
             &self.formulas,
             &mut self.asserted,
             n,
+            unions,
         )
     }
 
     /// Does what refutes a literal that was entered: keeps the terms of an equation apart, merges those of a disequation, or
-    /// merges the term of an atom with the other truth. For any other node it does nothing. Without memory all is as before.
-    pub fn refute(&mut self, n: u32) -> Result<(), Memory>
+    /// merges the term of an atom with the other truth. For any other node it does nothing. The unions that come of it are put
+    /// last. Without memory all is as before.
+    pub fn refute(&mut self, n: u32, unions: &mut Vec<Union>) -> Result<(), Memory>
         requires { n < length self.old.formulas.nodes }
         ensures ok { OnOk result ((node : SpecNode) → slice_get self.old.formulas.nodes n ≡ Some node → held_of self.new ≡ held (replay self.old.graph (refuting_of node)) self.old.asserted) }
+        ensures unions { OnOk result (ListsMore self.old.graph.standing self.new.graph.standing unions.old.items unions.new.items) }
+        ensures terms { OnOk result (terms_of self.new.graph.standing ≡ terms_of self.old.graph.standing) }
+        ensures differs { OnOk result ((more : List (ℕ × ℕ)) × (differs_of self.new.graph.standing ≡ differs_of self.old.graph.standing ++ more)) }
         ensures err { OnErr result (self.new ≡ self.old) }
         ensures more { HoldsMoreOver self.old self.new }
     {
         let _nodes = self.formulas.len();
-        refute_node(&mut self.graph, self.formulas.node(n))
+        refute_node(&mut self.graph, self.formulas.node(n), unions)
     }
 
     /// What is held now, to go back to. Takes no memory.

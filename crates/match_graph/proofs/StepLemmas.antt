@@ -1,5 +1,6 @@
 -- The live triggers after an operation, and the forest that keeps step with them.
-use Rattle.std.proofs.Common.{◌≡◌, ◌≢◌, ℕ, ◌≤◌, List, [], ◌∷◌, ◌++◌, length, take, drop, append-nil, length-append, refl, sym, ap, ◌∙◌, arith}
+use Rattle.std.proofs.Common.{◌≡◌, ◌≢◌, ℕ, ◌≤◌, List, [], ◌∷◌, ◌++◌, Result, Ok, Err, length, take, drop, append-nil, length-append, refl, sym, ap, ◌∙◌, arith}
+use Rattle.std.specs.Prelude.{OnOk, OnErr}
 use Rattle.std.specs.List.{before_last}
 use Rattle.std.proofs.Math.Seq.{take-append_seam}
 use Rattle.std.proofs.lemmas.List.{take-append-drop}
@@ -10,6 +11,7 @@ use Rattle.graph_meaning.specs.declared.op.Op.TheVariants.{Add, Merge, Differ, L
 use Rattle.graph_trigger.specs.declared.trigger.Trigger.{Trigger}
 use Rattle.graph_meaning.proofs.LawfulLaws.{triggers_of-push}
 use Rattle.graph_meaning.specs.Standing.{is_push, live_trigger, standing_after, triggers_of}
+use Rattle.graph_meaning.specs.State.{GraphState, state_after}
 
 -- the live triggers of a front are the first ones
 triggers_split : (k : ℕ) (standing : List Done) → triggers_of standing ≡ triggers_of (take k standing) ++ triggers_of (drop k standing)
@@ -40,3 +42,8 @@ triggers_kept standing serial Pop not_live not_pop = absurd (not_pop refl)
 -- a forest that was grown and cut again
 pub take_grown : (triggers : List Trigger) (trigger : Trigger) (count : ℕ) → count ≡ length triggers → take count (triggers ++ trigger ∷ []) ≡ triggers
 take_grown triggers trigger count is = ap (λ n. take n (triggers ++ trigger ∷ [])) is ∙ take-append_seam triggers (trigger ∷ [])
+
+-- a merge leaves all of them, whatever its answer
+pub triggers_merged : {U E : Type 0} (before after : GraphState) (left right : ℕ) (result : Result U E) → OnOk result (after ≡ state_after before (Merge left right)) → OnErr result (after ≡ before) → triggers_of after.standing ≡ triggers_of before.standing
+triggers_merged before after left right (Ok u) ok err = ap (λ (g : GraphState). triggers_of g.standing) ok ∙ triggers_of-push before.standing before.done (Merge left right) ∙ append-nil (triggers_of before.standing)
+triggers_merged before after left right (Err e) ok err = ap (λ (g : GraphState). triggers_of g.standing) err

@@ -1,9 +1,10 @@
 //! The graph with the codes of its live triggers.
 ghost use Rattle.std.specs.Prelude.{◌≡◌, ◌≢◌, ◌≤◌, ◌<◌, ◌↔◌, length, slice_get, Some, All, IsOk, IfOk, IfErr, OnOk, OnErr, IsTrue};
 ghost use Rattle.graph_meaning.specs.declared.op.Op.{Op as SpecOp};
-ghost use Rattle.graph_meaning.specs.declared.op.Op.TheVariants.{Live as LiveOp, Pop as PopOp};
+ghost use Rattle.graph_meaning.specs.declared.op.Op.TheVariants.{Merge as MergeOp, Live as LiveOp, Pop as PopOp};
 ghost use Rattle.graph_trigger.specs.declared.trigger.Trigger.{Trigger};
 ghost use Rattle.graph_meaning.specs.Lawful.{Allows};
+ghost use Rattle.graph_meaning.specs.Unions.{ListsUnions};
 ghost use Rattle.graph_meaning.specs.Standing.{terms_of, differs_of, triggers_of, levels_of};
 ghost use Rattle.graph_meaning.specs.State.{GraphState, first_state, state_after, table_of, IsFullFor};
 ghost use Rattle.graph_terms.specs.Terms.{term_row};
@@ -15,6 +16,7 @@ ghost use Rattle.match_graph.specs.GraphTerms.{with_terms};
 ghost use Rattle.graph_trigger.specs.Trigger.{IsValid};
 
 use crate::matches::all_matches_of;
+use graph_classes::Unions;
 use graph_congruence::{Clash, Graph};
 use graph_meaning::{ClassGraph, Front, Op};
 use graph_terms::{Memory, TableFault, TermEntry, TermRow};
@@ -91,6 +93,18 @@ impl MatchingGraph {
     {
         let added = self.graph.add(symbol, args)?;
         Ok(added.term)
+    }
+
+    /// Merges two terms, with all that follows, and lists the unions. Without memory the graph is as before.
+    pub fn merge(&mut self, left: u32, right: u32) -> Result<Unions, Memory>
+        requires left { left < length (terms_of self.old.standing) }
+        requires right { right < length (terms_of self.old.standing) }
+        ensures ok { OnOk result (self.new ≡ state_after self.old (MergeOp left right)) }
+        ensures unions { IfOk result (λ unions. ListsUnions self.old.standing self.new.standing unions) }
+        ensures err { OnErr result (self.new ≡ self.old) }
+    {
+        let _forest = &self.forest;
+        self.graph.merge(left, right)
     }
 
     /// Makes a trigger live. Without memory the graph is as before.

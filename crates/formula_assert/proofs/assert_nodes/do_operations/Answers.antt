@@ -1,6 +1,7 @@
 use Rattle.std.proofs.Common.{cond, length}
 use Rattle.graph_meaning.specs.declared.op.Op.TheVariants.{Merge, Differ}
 use Rattle.graph_meaning.specs.Standing.{terms_of}
+use Rattle.formula_assert.proofs.NewsLemmas.{lists_same, live_news}
 use Rattle.formula_assert.proofs.OperationLemmas.{equation_stands, truth_stands, applied_grows, equation_inside, triggers_valid}
 use Rattle.formula_assert.proofs.assert_nodes.do_operations.Goals as goal
 
@@ -25,3 +26,14 @@ pub returns-in-Atom-clause-grows : goal.returns-in-Atom-clause-grows
 returns-in-Atom-clause-grows g c =
     let state = g.G.AssertionGraph.state in
     applied_grows (state c.args.graph.now) (state c.assert_truth.new.graph) (Merge c.in-Atom.term (cond c.in-Atom.positive 0 1)) c.assert_truth.result tt c.assert_truth.ensures.ok c.assert_truth.ensures.err
+
+pub returns-in-Forall-clause-unions : goal.returns-in-Forall-clause-unions
+returns-in-Forall-clause-unions g c =
+    let state = g.G.AssertionGraph.state in
+    live_news (state c.args.graph.now) (state c.make_live.new.graph) c.triggers_of.result.now c.args.unions.now.items c.make_live.result c.make_live.ensures.ok
+
+pub returns-in-And-clause-unions : goal.returns-in-And-clause-unions
+returns-in-And-clause-unions g c = lists_same (g.G.AssertionGraph.state c.args.graph.now).standing c.args.unions.now.items
+
+pub returns-in-And-2-clause-unions : goal.returns-in-And-2-clause-unions
+returns-in-And-2-clause-unions g c = lists_same (g.G.AssertionGraph.state c.args.graph.now).standing c.args.unions.now.items

@@ -54,16 +54,16 @@ invariant_of-self-in-Err c =
     c.take_back_to.new.graph c.cut.new.self c.keep_first.new.self c.len-nodes.result c.foralls-foralls.result c.len-asserted.result c.len-nodes.ensures.value c.foralls-foralls.ensures c.len-asserted.ensures
     (c.take_back_to.ensures c.enter.new.terms (sym c.version-version.ensures) c.in-Err.ensures.grows.grows) c.cut.ensures c.keep_first.ensures
 
-pub returns-in-Err-clause-fault : goal.returns-in-Err-clause-fault
-returns-in-Err-clause-fault c =
+pub returns-clause-fault : goal.returns-clause-fault
+returns-clause-fault c =
     subst (λ (before : Assertions). StopsAssert c.args.formula.now before (assertions_with c.take_back_to.new.graph c.cut.new.self c.keep_first.new.self c.self.inside.levels.items) Memory) c.self.view_is
     (undone_stops c.args.formula.now c.root-formula.ensures.formula c.self.inside.graph c.enter.new.terms c.self.inside.formulas c.enter.new.self c.self.inside.graph.limit c.in_ok-root.root c.in_ok-root.ensures.ok c.self.invariant.terms_stand
     c.assert_node.new.graph c.self.inside.asserted c.assert_node.new.asserted c.self.inside.levels.items c.in-Err.ensures.grows c.self.invariant
     c.take_back_to.new.graph c.cut.new.self c.keep_first.new.self c.len-nodes.result c.foralls-foralls.result c.len-asserted.result c.len-nodes.ensures.value c.foralls-foralls.ensures c.len-asserted.ensures
     (c.take_back_to.ensures c.enter.new.terms (sym c.version-version.ensures) c.in-Err.ensures.grows.grows) c.cut.ensures c.keep_first.ensures refl)
 
-pub returns-in-Err-clause-levels : goal.returns-in-Err-clause-levels
-returns-in-Err-clause-levels c =
+pub returns-clause-levels : goal.returns-clause-levels
+returns-clause-levels c =
     subst (λ (before : Assertions). KeepsLevels before (assertions_with c.take_back_to.new.graph c.cut.new.self c.keep_first.new.self c.self.inside.levels.items)) c.self.view_is
     (undone_keeps c.args.formula.now c.root-formula.ensures.formula c.self.inside.graph c.enter.new.terms c.self.inside.formulas c.enter.new.self c.self.inside.graph.limit c.in_ok-root.root c.in_ok-root.ensures.ok c.self.invariant.terms_stand
     c.assert_node.new.graph c.self.inside.asserted c.assert_node.new.asserted c.self.inside.levels.items c.in-Err.ensures.grows c.self.invariant
