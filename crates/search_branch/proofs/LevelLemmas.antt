@@ -1,15 +1,13 @@
 -- A level of values ends.
-use Rattle.std.proofs.Common.{◌≡◌, ℕ, zero, suc, ◌+◌, ◌-◌, false, List, [], ◌∷◌, ◌++◌, length, take, reverse, refl, sym}
+use Rattle.std.proofs.Common.{◌≡◌, ℕ, ◌-◌, false, List, [], ◌∷◌, ◌++◌, length, take, reverse, refl, sym}
 use Rattle.std.proofs.Common.{ap, ap₂, subst, ◌∙◌, arith}
 use Rattle.std.specs.Prelude.{slice_index_or}
 use Rattle.std.proofs.lemmas.List.{length-append, reverse-append, reverse-reverse, take-append-le, take_all}
 use Rattle.formula_assert.specs.Assertions.{Assertions, held_of}
 use Rattle.search_board.specs.Board.{Shown}
-use Rattle.search_values.specs.Given.{Given}
 use Rattle.search_values.specs.GivenBy.{given_by}
 use Rattle.search_values.specs.Kept.{Kept, given_of, popped}
 use Rattle.search_watch.specs.declared.mark.Mark.{Mark}
-use Rattle.search_watch.specs.declared.watch.Watch.{Watch}
 use Rattle.search_watch.specs.Back.{IsMark, CanGoBack}
 use Rattle.search_watch.specs.Service.{Serves, service}
 use Rattle.search_branch.specs.declared.branch_values.BranchValues.{BranchValues}

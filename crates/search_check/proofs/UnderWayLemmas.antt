@@ -1,6 +1,6 @@
 -- A search goes on.
-use Rattle.std.proofs.Common.{◌≡◌, ℕ, ◌<◌, true, List, [], ◌∷◌, ◌++◌, length, take, get_or, slice_get, Some, refl}
-use Rattle.std.proofs.Common.{sym, ap, subst, ◌∙◌, append-nil, arith}
+use Rattle.std.proofs.Common.{◌≡◌, ℕ, ◌<◌, true, false, List, [], ◌∷◌, ◌++◌, length, take, get_or, slice_get, Some, refl}
+use Rattle.std.proofs.Common.{sym, ap, subst, ◌∙◌, append-nil}
 use Rattle.std.proofs.lemmas.Option.{slice_get-get_or}
 use Rattle.graph_meaning.specs.State.{replay}
 use Rattle.formula_table.specs.declared.node.Node.{Node}
@@ -22,7 +22,7 @@ use Rattle.search_branch.specs.Levels.{IsLevelOver}
 use Rattle.search_branch.specs.Steps.{branch_of, IsStep}
 use Rattle.search_check.specs.declared.aside.Aside.{Aside}
 use Rattle.search_check.specs.UnderWay.{Half, IsHalfway, AreHalves, IsOnTheWay, IsUnderWay, IsAgainAt}
-use Rattle.search_check.proofs.OverLemmas.{over_same, over_both}
+use Rattle.search_check.proofs.OverLemmas.{over_same}
 use Rattle.search_check.proofs.LiveLemmas.{none_live}
 use Rattle.search_check.proofs.WayLemmas.{starts, steps, ends, splits, takes_up, loses}
 use Rattle.search_check.proofs.HalfLemmas.{calm_here, calm_alike, halves_over, halves_more, halves_alike, take_seam}

@@ -87,21 +87,16 @@ IsSearching start now search = IsUnderWay start now search.asides.items search.s
 pub record IsAgainAt (start now : Assertions) (asides : List Aside) (struck : List (ℕ × ℕ)) (values : BranchValues)
     (aside : Aside) : Type 0 where
   pub node : Node
-  pub is_half : IsHalf (record {
-    before = now;
-    struck = take aside.struck struck;
-    values = values;
-    aside = aside;
-    node = node;
-  })
+  pub is_half : IsHalf (record { before = now; struck = struck; values = values; aside = aside; node = node })
   pub halves : List Half
-  pub are : AreHalves start halves asides now (take aside.struck struck) values
+  pub are : AreHalves start halves asides now struck values
   pub way : IsOnTheWay start.formulas (first_branch (held_of start)) halves
-      (with_struck (branch_of now (take aside.struck struck)) aside.node aside.place node)
+      (with_struck (branch_of now struck) aside.node aside.place node)
 
--- so it did by what the search keeps
+-- so it did by what the search keeps, where the places that were struck since then are left out
 abbrev pub IsBackAt : Assertions → Assertions → Search → Aside → Type 0
-IsBackAt start now search = IsAgainAt start now search.asides.items search.struck.items search.values
+IsBackAt start now search aside = IsAgainAt start now search.asides.items (take aside.struck search.struck.items)
+    search.values aside
 
 -- the search goes on, or this is its outcome
 abbrev pub GoesOn : Assertions → Assertions → Search → Option Outcome → Type 0
