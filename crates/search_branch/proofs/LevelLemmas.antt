@@ -46,11 +46,6 @@ module _ {X : Type 0} where
     same_front = let turned : reverse xs ≡ reverse ys = cc backwards in
         sym (reverse-reverse xs) ∙ ap reverse turned ∙ reverse-reverse ys
 
--- no level is open without a mark
-pub no_level : (before now : BranchValues) → length now.marks.items ≡ 0 → IsLevelOver before now → ⊥
-no_level before now none over =
-    omega (arith, none, ap length over.marks, length-append before.marks.items (over.mark ∷ []))
-
 -- the last mark was taken from a level that is open
 module _ (before now : BranchValues) (over : IsLevelOver before now) (marks : List Mark) (mark : Mark)
     (taken : now.marks.items ≡ marks ++ mark ∷ []) where

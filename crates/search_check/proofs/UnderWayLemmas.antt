@@ -1,6 +1,6 @@
 -- A search goes on.
-use Rattle.std.proofs.Common.{◌≡◌, ℕ, ◌<◌, true, false, List, [], ◌∷◌, ◌++◌, length, take, get_or, slice_get, Some, refl}
-use Rattle.std.proofs.Common.{sym, ap, subst, ◌∙◌, append-nil}
+use Rattle.std.proofs.Common.{◌≡◌, ℕ, ◌<◌, true, false, List, [], ◌∷◌, ◌++◌, length, take, get_or, slice_get, Some}
+use Rattle.std.proofs.Common.{refl, sym, ap, subst, ◌∙◌, append-nil}
 use Rattle.std.proofs.lemmas.Option.{slice_get-get_or}
 use Rattle.graph_meaning.specs.State.{replay}
 use Rattle.formula_table.specs.declared.node.Node.{Node}
@@ -111,8 +111,8 @@ module _ (start now : Assertions) (asides : List Aside) (struck : List (ℕ × �
               },
               under_way.are,
             );
-            way = splits start.formulas (first_branch (held_of start)) half under_way.halves (held_of next) under_way.way
-                step.0 step.1 step.2 asserts_at_start
+            way = splits start.formulas (first_branch (held_of start)) half under_way.halves (held_of next)
+                under_way.way step.0 step.1 step.2 asserts_at_start
                 (subst (λ (formulas : Formulas). HasNode formulas.nodes part node) over_start.formulas_are has);
             right = right;
           }

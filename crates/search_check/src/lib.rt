@@ -1,9 +1,9 @@
 //! Decides what stands in an assertion stack by the plain search.
 //!
-//! [`check`] answers whether some branch is a way out, and leaves the stack as it was. A branch asserts the one part left
-//! over of a disjunction again and again, and then splits the first open disjunction: its first part left over is asserted,
-//! and where that is lost, it is struck and refuted. The values of all formulas are kept as the stack comes to hold more
-//! and goes back, so a step costs what follows from it and not the size of the table.
+//! [`check`] answers whether some branch is a way out, and leaves the stack as it was. A branch asserts the one part
+//! left over of a disjunction again and again, and then splits the first open disjunction: its first part left over is
+//! asserted, and where that is lost, it is struck and refuted. The values of all formulas are kept as the stack comes to
+//! hold more and goes back, so a step costs what follows from it and not the size of the table.
 #![tactic(auto)]
 
 mod aside;

@@ -14,8 +14,8 @@ use graph_terms::Memory;
 use search_branch::{BranchValues, Step};
 use std::alloc::Global;
 
-/// The splits whose first halves are under way, the last of them last, the struck places, a disjunction and a place of it,
-/// and the values of all formulas.
+/// The splits whose first halves are under way, the last of them last, the struck places, each a disjunction and a place
+/// of it, and the values of all formulas.
 #[derive(Drop)]
 pub(crate) struct Search {
     asides: Vec<Aside>,
