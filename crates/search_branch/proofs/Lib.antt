@@ -3,3 +3,4 @@ pub mod NodeLemmas
 pub mod ValueLemmas
 pub mod ChoiceLemmas
 pub mod NextLemmas
+pub mod LevelLemmas

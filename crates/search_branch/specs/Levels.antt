@@ -1,5 +1,5 @@
 -- Levels of values, which can be gone back from.
-use Rattle.std.specs.Prelude.{◌≡◌, List, [], ◌∷◌, ◌++◌}
+use Rattle.std.specs.Prelude.{◌≡◌, [], ◌∷◌, ◌++◌}
 use Rattle.search_watch.specs.declared.mark.Mark.{Mark}
 use Rattle.search_watch.specs.Back.{IsMark, CanGoBack}
 use Rattle.search_branch.specs.declared.branch_values.BranchValues.{BranchValues}

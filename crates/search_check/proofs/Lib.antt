@@ -1,10 +1,8 @@
-pub mod ListLemmas
+pub mod ResultLemmas
 pub mod OverLemmas
-pub mod TruthLemmas
-pub mod LeftLemmas
-pub mod FoundLemmas
-pub mod StepLemmas
+pub mod LiveLemmas
 pub mod KeptLemmas
 pub mod WayLemmas
+pub mod HalfLemmas
 pub mod UnderWayLemmas
 pub mod TellLemmas

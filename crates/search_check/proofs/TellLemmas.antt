@@ -1,5 +1,5 @@
 -- What a verdict tells of finite assignments.
-use Rattle.std.proofs.Common.{ℕ, length, Ok, Err}
+use Rattle.std.proofs.Common.{length, Ok, Err}
 use Rattle.std.specs.Prelude.{Result, IfOk}
 use Rattle.graph_terms.specs.Terms.{IsTable}
 use Rattle.graph_meaning.specs.Standing.{terms_of}

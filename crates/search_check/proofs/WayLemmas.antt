@@ -9,8 +9,7 @@ use Rattle.search_laws.specs.Closing.{Conflict, Closes, IsFirstUnit, IsSplit, Ha
 use Rattle.search_laws.specs.Closing as closing
 use Rattle.search_laws.specs.Verdict.{Ending, unsat, sat, Verdict, IsQuiet, IsDecided}
 use Rattle.search_laws.specs.Verdict as verdicts
-use Rattle.search_check.specs.Truths.{branch_of}
-use Rattle.search_check.specs.Steps.{HasNoConflict, HasNoUnit}
+use Rattle.search_branch.specs.Steps.{branch_of, HasNoConflict, HasNoUnit}
 use Rattle.search_check.specs.UnderWay.{Half, second_branch, Unwinds, IsOnTheWay}
 use Rattle.search_check.specs.UnderWay as way
 

@@ -18,7 +18,7 @@ fn search(alloc: Global, stack: &mut AssertionStack) -> Result<Outcome, Memory>
     ensures verdict { IfOk result (IsVerdictOf stack.old.formulas (held_of stack.old)) }
     ensures more { HoldsMoreOver stack.old stack.new }
 {
-    let mut search = Search::new(alloc);
+    let mut search = Search::new(alloc, stack)?;
     for _step in 0..u64::MAX {
         if let Some(outcome) = search.advance(alloc, stack)? {
             return Ok(outcome);

@@ -2,23 +2,25 @@
 ghost use Rattle.std.specs.Prelude.{◌≡◌, ◌<◌, ◌++◌, ◌∷◌, [], length, take, IfOk, OnOk, OnErr};
 ghost use Rattle.formula_assert.specs.Assertions.{Assertions, held_of};
 ghost use Rattle.formula_assert.specs.InLevel.{HoldsMoreOver};
-ghost use Rattle.search_check.specs.Steps.{IsStep};
-ghost use Rattle.search_check.specs.Truths.{branch_of};
-ghost use Rattle.search_check.specs.UnderWay.{IsSearching, GoesOn};
+ghost use Rattle.search_branch.specs.Right.{AreValuesOf};
+ghost use Rattle.search_branch.specs.Steps.{IsStep, branch_of};
+ghost use Rattle.search_check.specs.UnderWay.{IsSearching, IsBackAt, GoesOn};
 
 use crate::aside::Aside;
 use crate::kept::kept_of;
 use crate::outcome::Outcome;
-use crate::step::{Step, next_step};
 use formula_assert::AssertionStack;
 use graph_terms::Memory;
+use search_branch::{BranchValues, Step};
 use std::alloc::Global;
 
-/// The splits whose first halves are under way, the last of them last, and the struck places: a disjunction and a place of it.
+/// The splits whose first halves are under way, the last of them last, the struck places, each a disjunction and a place
+/// of it, and the values of all formulas.
 #[derive(Drop)]
 pub(crate) struct Search {
     asides: Vec<Aside>,
     struck: Vec<(u32, u32)>,
+    values: BranchValues,
 }
 
 /// Puts a split last.
@@ -41,51 +43,88 @@ fn strike(struck: &mut Vec<(u32, u32)>, count: usize, node: u32, place: u32) -> 
 
 impl Search {
     /// Nothing is split.
-    pub(crate) fn new(alloc: Global) -> Search
-        ensures { (start : Assertions) → IsSearching start start result }
+    pub(crate) fn new(alloc: Global, stack: &AssertionStack) -> Result<Search, Memory>
+        requires { stack.now.formulas.foralls ≡ [] }
+        ensures { IfOk result (IsSearching stack.now stack.now) }
     {
         let asides = Vec::new(alloc);
         let struck = Vec::new(alloc);
-        Search { asides, struck }
+        let values = BranchValues::new(alloc, stack)?;
+        Ok(Search {
+            asides,
+            struck,
+            values,
+        })
+    }
+
+    /// Strikes the place of a split that was gone back to, and refutes its part.
+    fn refute(
+        &mut self,
+        alloc: Global,
+        stack: &mut AssertionStack,
+        aside: Aside,
+    ) -> Result<Option<Outcome>, Memory>
+        requires { (start : Assertions) × IsBackAt start stack.old self.old aside }
+        ensures ok { IfOk result (λ outcome. (start : Assertions) → IsBackAt start stack.old self.old aside → GoesOn start stack.new self.new outcome) }
+        ensures more { HoldsMoreOver stack.old stack.new }
+    {
+        strike(&mut self.struck, aside.struck, aside.node, aside.place)?;
+        self.values
+            .refute(alloc, stack, aside.node, aside.place, aside.part)?;
+        Ok(None)
     }
 
     /// Takes up the second half of the last split that is under way; where there is none, the search is lost.
-    fn take_up(&mut self, stack: &mut AssertionStack) -> Result<Option<Outcome>, Memory>
-        requires { (start : Assertions) × IsSearching start stack.old self.old }
-        ensures ok { IfOk result (λ outcome. (start : Assertions) → IsSearching start stack.old self.old → IsStep stack.old.formulas (branch_of stack.old self.old.struck.items) Step.Lost → GoesOn start stack.new self.new outcome) }
+    fn take_up(
+        &mut self,
+        alloc: Global,
+        stack: &mut AssertionStack,
+    ) -> Result<Option<Outcome>, Memory>
+        requires under_way { (start : Assertions) × IsSearching start stack.old self.old }
+        requires step { IsStep stack.old.formulas (branch_of stack.old self.old.struck.items) Step.Lost }
+        ensures ok { IfOk result (λ outcome. (start : Assertions) → IsSearching start stack.old self.old → GoesOn start stack.new self.new outcome) }
         ensures more { (start : Assertions) → IsSearching start stack.old self.old → HoldsMoreOver start stack.new }
     {
         match self.asides.pop() {
             None => return Ok(Some(Outcome::Unsat)),
             Some(aside) => {
+                self.values.close();
                 stack.back_to(aside.mark);
-                strike(&mut self.struck, aside.struck, aside.node, aside.place)?;
-                stack.refute(aside.part)?;
-                return Ok(None);
+                return self.refute(alloc, stack, aside);
             }
         }
     }
 
     /// Asserts the one part left over.
-    fn assert(&self, stack: &mut AssertionStack, part: u32) -> Result<Option<Outcome>, Memory>
-        requires { part < length stack.old.formulas.nodes }
-        ensures ok { IfOk result (λ outcome. (start : Assertions) → IsSearching start stack.old self.now → IsStep stack.old.formulas (branch_of stack.old self.now.struck.items) (Step.Assert part) → GoesOn start stack.new self.now outcome) }
+    fn assert(
+        &mut self,
+        alloc: Global,
+        stack: &mut AssertionStack,
+        part: u32,
+    ) -> Result<Option<Outcome>, Memory>
+        requires stands { part < length stack.old.formulas.nodes }
+        requires values { AreValuesOf stack.old self.old.struck.items self.old.values }
+        requires step { IsStep stack.old.formulas (branch_of stack.old self.old.struck.items) (Step.Assert part) }
+        ensures ok { IfOk result (λ outcome. (start : Assertions) → IsSearching start stack.old self.old → GoesOn start stack.new self.new outcome) }
         ensures more { HoldsMoreOver stack.old stack.new }
     {
-        stack.assert_entered(part)?;
+        self.values.assert(alloc, stack, part)?;
         Ok(None)
     }
 
     /// Splits a disjunction: asserts the part at the place, and keeps the second half.
     fn split(
         &mut self,
+        alloc: Global,
         stack: &mut AssertionStack,
         node: u32,
         place: u32,
         part: u32,
     ) -> Result<Option<Outcome>, Memory>
-        requires { part < length stack.old.formulas.nodes }
-        ensures ok { IfOk result (λ outcome. (start : Assertions) → IsSearching start stack.old self.old → IsStep stack.old.formulas (branch_of stack.old self.old.struck.items) (Step.Split node place part) → GoesOn start stack.new self.new outcome) }
+        requires stands { part < length stack.old.formulas.nodes }
+        requires values { AreValuesOf stack.old self.old.struck.items self.old.values }
+        requires step { IsStep stack.old.formulas (branch_of stack.old self.old.struck.items) (Step.Split node place part) }
+        ensures ok { IfOk result (λ outcome. (start : Assertions) → IsSearching start stack.old self.old → GoesOn start stack.new self.new outcome) }
         ensures more { HoldsMoreOver stack.old stack.new }
     {
         let mark = stack.mark();
@@ -98,16 +137,16 @@ impl Search {
             struck,
         };
         push_aside(&mut self.asides, aside)?;
-        stack.assert_entered(part)?;
+        self.values.open()?;
+        self.values.assert(alloc, stack, part)?;
         Ok(None)
     }
 
     /// The way out that the stack holds.
     fn way_out(&self, alloc: Global, stack: &AssertionStack) -> Result<Option<Outcome>, Memory>
-        requires { stack.now.formulas.foralls ≡ [] }
-        ensures { IfOk result (λ outcome. (start : Assertions) → IsSearching start stack.now self.now → IsStep stack.now.formulas (branch_of stack.now self.now.struck.items) Step.WayOut → GoesOn start stack.now self.now outcome) }
+        requires { IsStep stack.now.formulas (branch_of stack.now self.now.struck.items) Step.WayOut }
+        ensures { IfOk result (λ outcome. (start : Assertions) → IsSearching start stack.now self.now → GoesOn start stack.now self.now outcome) }
     {
-        let _nodes = stack.formulas().len();
         let kept = kept_of(alloc, stack)?;
         Ok(Some(Outcome::Sat { kept }))
     }
@@ -118,16 +157,17 @@ impl Search {
         alloc: Global,
         stack: &mut AssertionStack,
     ) -> Result<Option<Outcome>, Memory>
-        requires ground { stack.old.formulas.foralls ≡ [] }
-        requires under_way { (start : Assertions) × IsSearching start stack.old self.old }
+        requires { (start : Assertions) × IsSearching start stack.old self.old }
         ensures ok { IfOk result (λ outcome. (start : Assertions) → IsSearching start stack.old self.old → GoesOn start stack.new self.new outcome) }
         ensures more { (start : Assertions) → IsSearching start stack.old self.old → HoldsMoreOver start stack.new }
     {
-        let step = next_step(alloc, stack, &self.struck)?;
+        let step = self.values.next_step()?;
         match step {
-            Step::Lost => return self.take_up(stack),
-            Step::Assert { part } => return self.assert(stack, part),
-            Step::Split { node, place, part } => return self.split(stack, node, place, part),
+            Step::Lost => return self.take_up(alloc, stack),
+            Step::Assert { part } => return self.assert(alloc, stack, part),
+            Step::Split { node, place, part } => {
+                return self.split(alloc, stack, node, place, part);
+            }
             Step::WayOut => return self.way_out(alloc, stack),
         }
     }

@@ -1,15 +1,14 @@
-use Rattle.std.proofs.Common.{ap, subst, ◌∙◌}
-use Rattle.formula_table.specs.Formulas.{Formulas}
+use Rattle.std.proofs.Common.{subst}
 use Rattle.search_check.specs.UnderWay.{GoesOn}
-use Rattle.search_check.proofs.UnderWayLemmas.{over_start, same_formulas}
+use Rattle.search_check.proofs.OverLemmas.{over_same}
+use Rattle.search_check.proofs.UnderWayLemmas.{over_start}
 use Rattle.search_check.proofs.decide.search.Goals as goal
 
-pub advance-requires-clause-ground : goal.advance-requires-clause-ground
-advance-requires-clause-ground c =
-    ap (λ (formulas : Formulas). formulas.foralls)
-    (same_formulas c.args.stack.now c.loop-step.stack c.loop-step.search.asides.items c.loop-step.search.struck.items
-    c.loop-step.invariant)
-    ∙ c.requires
+pub returns-in_err-search-clause-more : goal.returns-in_err-search-clause-more
+returns-in_err-search-clause-more c = over_same c.args.stack.now
+
+pub advance-requires : goal.advance-requires
+advance-requires c = (c.args.stack.now, c.loop-step.invariant)
 
 pub returns-in_err-outcome-clause-more : goal.returns-in_err-outcome-clause-more
 returns-in_err-outcome-clause-more c = c.advance.ensures.more c.args.stack.now c.loop-step.invariant
@@ -24,4 +23,4 @@ returns-in-Some-clause-more c = c.advance.ensures.more c.args.stack.now c.loop-s
 
 pub returns-clause-more : goal.returns-clause-more
 returns-clause-more c = over_start c.args.stack.now c.loop-step.stack c.loop-step.search.asides.items
-    c.loop-step.search.struck.items c.loop-step.invariant
+    c.loop-step.search.struck.items c.loop-step.search.values c.loop-step.invariant

@@ -1,60 +1,74 @@
-use Rattle.std.proofs.Common.{◌≡◌, ℕ, List, subst}
+use Rattle.std.proofs.Common.{◌≡◌, ℕ, List, length, subst}
 use Rattle.formula_assert.specs.Assertions.{Assertions}
-use Rattle.search_check.specs.declared.step.Step.{Step}
-use Rattle.search_check.specs.declared.step.Step.TheVariants.{Lost, Assert, Split, WayOut}
-use Rattle.search_check.specs.Truths.{branch_of}
-use Rattle.search_check.specs.Steps.{IsStep}
-use Rattle.search_check.proofs.ListLemmas.{ok_then}
+use Rattle.search_branch.specs.declared.branch_values.BranchValues.{BranchValues}
+use Rattle.search_branch.specs.declared.step.Step.{Step}
+use Rattle.search_branch.specs.declared.step.Step.TheVariants.{Lost, Assert, Split, WayOut}
+use Rattle.search_branch.specs.Right.{AreValuesOf}
+use Rattle.search_branch.specs.Steps.{branch_of, IsStep, IsWithin}
 use Rattle.search_check.proofs.OverLemmas.{over_both}
 use Rattle.search_check.proofs.UnderWayLemmas.{over_start}
 use Rattle.search_check.proofs.search.Search.advance.Goals as goal
 
--- the step that was found, over the places themselves
-step_there : (now : Assertions) (struck slice : List (ℕ × ℕ)) (found step : Step) → slice ≡ struck → found ≡ step →
-    IsStep now.formulas (branch_of now slice) found → IsStep now.formulas (branch_of now struck) step
-step_there now struck slice found step same is at =
-    subst (λ (places : List (ℕ × ℕ)). IsStep now.formulas (branch_of now places) step) same
-    (subst (λ (next : Step). IsStep now.formulas (branch_of now slice) next) is at)
+-- what was found, of this step
+module _ (now : Assertions) (struck : List (ℕ × ℕ)) (values : BranchValues) (found step : Step)
+    (same : found ≡ step) (right : AreValuesOf now struck values) where
+  step_there : ((stood : Assertions) (places : List (ℕ × ℕ)) → AreValuesOf stood places values →
+      IsStep stood.formulas (branch_of stood places) found) → IsStep now.formulas (branch_of now struck) step
+  step_there is = subst (IsStep now.formulas (branch_of now struck)) same (is now struck right)
+
+  within_there : ((stood : Assertions) (places : List (ℕ × ℕ)) → AreValuesOf stood places values →
+      IsWithin (length stood.formulas.nodes) found) → IsWithin (length now.formulas.nodes) step
+  within_there within = subst (IsWithin (length now.formulas.nodes)) same (within now struck right)
 
 pub returns-in_err-step-clause-more : goal.returns-in_err-step-clause-more
 returns-in_err-step-clause-more c start searching =
-    over_start start c.args.stack.now c.args.self.now.asides.items c.args.self.now.struck.items searching
+    over_start start c.args.stack.now c.args.self.now.asides.items c.args.self.now.struck.items
+    c.args.self.now.values searching
 
-pub returns-in-Lost-clause-ok : goal.returns-in-Lost-clause-ok
-returns-in-Lost-clause-ok c = ok_then c.take_up.result c.take_up.ensures.ok (λ outcome follows start searching.
-    follows start searching (step_there c.args.stack.now c.args.self.now.struck.items c.deref.result.now
-    c.in_ok-step.step
-    Lost c.deref.ensures.value c.in-Lost.is c.in_ok-step.ensures.step))
+pub take_up-requires-clause-under_way : goal.take_up-requires-clause-under_way
+take_up-requires-clause-under_way c = c.requires
 
-pub returns-in-Assert-clause-ok : goal.returns-in-Assert-clause-ok
-returns-in-Assert-clause-ok c = ok_then c.assert.result c.assert.ensures.ok (λ outcome follows start searching.
-    follows start searching (step_there c.args.stack.now c.args.self.now.struck.items c.deref.result.now
-    c.in_ok-step.step
-    (Assert c.in-Assert.part) c.deref.ensures.value c.in-Assert.is c.in_ok-step.ensures.step))
+pub take_up-requires-clause-step : goal.take_up-requires-clause-step
+take_up-requires-clause-step c = step_there c.args.stack.now c.args.self.now.struck.items
+    c.args.self.now.values c.in_ok-step.step Lost c.in-Lost.is c.requires.1.right c.in_ok-step.ensures.step
+
+pub assert-requires : goal.assert-requires
+assert-requires c = record {
+  stands = within_there c.args.stack.now c.args.self.now.struck.items c.args.self.now.values
+      c.in_ok-step.step (Assert c.in-Assert.part) c.in-Assert.is c.requires.1.right c.in_ok-step.ensures.within;
+  values = c.requires.1.right;
+  step = step_there c.args.stack.now c.args.self.now.struck.items c.args.self.now.values
+      c.in_ok-step.step (Assert c.in-Assert.part) c.in-Assert.is c.requires.1.right c.in_ok-step.ensures.step;
+}
 
 pub returns-in-Assert-clause-more : goal.returns-in-Assert-clause-more
 returns-in-Assert-clause-more c start searching = over_both start c.args.stack.now c.assert.new.stack
-    (over_start start c.args.stack.now c.args.self.now.asides.items c.args.self.now.struck.items searching)
+    (over_start start c.args.stack.now c.args.self.now.asides.items c.args.self.now.struck.items
+    c.args.self.now.values searching)
     c.assert.ensures.more
 
-pub returns-in-Split-clause-ok : goal.returns-in-Split-clause-ok
-returns-in-Split-clause-ok c = ok_then c.split.result c.split.ensures.ok (λ outcome follows start searching.
-    follows start searching (step_there c.args.stack.now c.args.self.now.struck.items c.deref.result.now
-    c.in_ok-step.step
-    (Split c.in-Split.node c.in-Split.place c.in-Split.part) c.deref.ensures.value c.in-Split.is
-    c.in_ok-step.ensures.step))
+pub split-requires : goal.split-requires
+split-requires c =
+    let step = Split c.in-Split.node c.in-Split.place c.in-Split.part in
+    record {
+      stands = within_there c.args.stack.now c.args.self.now.struck.items c.args.self.now.values
+          c.in_ok-step.step step c.in-Split.is c.requires.1.right c.in_ok-step.ensures.within;
+      values = c.requires.1.right;
+      step = step_there c.args.stack.now c.args.self.now.struck.items c.args.self.now.values
+          c.in_ok-step.step step c.in-Split.is c.requires.1.right c.in_ok-step.ensures.step;
+    }
 
 pub returns-in-Split-clause-more : goal.returns-in-Split-clause-more
 returns-in-Split-clause-more c start searching = over_both start c.args.stack.now c.split.new.stack
-    (over_start start c.args.stack.now c.args.self.now.asides.items c.args.self.now.struck.items searching)
+    (over_start start c.args.stack.now c.args.self.now.asides.items c.args.self.now.struck.items
+    c.args.self.now.values searching)
     c.split.ensures.more
 
-pub returns-in-WayOut-clause-ok : goal.returns-in-WayOut-clause-ok
-returns-in-WayOut-clause-ok c = ok_then c.way_out.result c.way_out.ensures (λ outcome follows start searching.
-    follows start searching (step_there c.args.stack.now c.args.self.now.struck.items c.deref.result.now
-    c.in_ok-step.step
-    WayOut c.deref.ensures.value c.in-WayOut.is c.in_ok-step.ensures.step))
+pub way_out-requires : goal.way_out-requires
+way_out-requires c = step_there c.args.stack.now c.args.self.now.struck.items
+    c.args.self.now.values c.in_ok-step.step WayOut c.in-WayOut.is c.requires.1.right c.in_ok-step.ensures.step
 
 pub returns-in-WayOut-clause-more : goal.returns-in-WayOut-clause-more
 returns-in-WayOut-clause-more c start searching =
-    over_start start c.args.stack.now c.args.self.now.asides.items c.args.self.now.struck.items searching
+    over_start start c.args.stack.now c.args.self.now.asides.items c.args.self.now.struck.items
+    c.args.self.now.values searching

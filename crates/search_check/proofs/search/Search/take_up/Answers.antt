@@ -1,90 +1,52 @@
 use Rattle.std.proofs.Common.{arith}
 use Rattle.search_check.proofs.OverLemmas.{over_both}
-use Rattle.search_check.proofs.UnderWayLemmas.{over_start, same_formulas, no_elements, none_left, last_half, its_mark}
-use Rattle.search_check.proofs.UnderWayLemmas.{its_over, back_over, back_part, back_taken_up}
+use Rattle.search_check.proofs.ResultLemmas.{ok_then}
+use Rattle.search_check.proofs.HalfLemmas.{no_elements}
+use Rattle.search_check.proofs.UnderWayLemmas.{over_start, none_left, marked, opened, over_back, again_there}
 use Rattle.search_check.proofs.search.Search.take_up.Goals as goal
 
 pub returns-in-None-clause-ok : goal.returns-in-None-clause-ok
-returns-in-None-clause-ok c start searching step =
-    none_left start c.args.stack.now c.args.self.now.struck.items c.args.self.now.asides.items
+returns-in-None-clause-ok c start searching =
+    none_left start c.args.stack.now c.args.self.now.asides.items c.args.self.now.struck.items c.args.self.now.values
+    searching
     (no_elements c.args.self.now.asides.items
-    (omega (arith, c.args.self.now.asides.ok, c.in-None.ensures.cases.0))) searching step
+    (omega (arith, c.args.self.now.asides.ok, c.in-None.ensures.cases.0)))
+    c.requires.step
 
 pub returns-in-None-clause-more : goal.returns-in-None-clause-more
 returns-in-None-clause-more c start searching =
-    over_start start c.args.stack.now c.args.self.now.asides.items c.args.self.now.struck.items searching
+    over_start start c.args.stack.now c.args.self.now.asides.items c.args.self.now.struck.items
+    c.args.self.now.values searching
+
+pub close-requires : goal.close-requires
+close-requires c = opened c.requires.under_way.0 c.args.stack.now c.args.self.now.asides.items c.pop.new.self.items
+    c.in-Some.aside c.args.self.now.struck.items c.args.self.now.values c.in-Some.ensures.items c.requires.under_way.1
 
 pub back_to-requires : goal.back_to-requires
-back_to-requires c =
-    let start = c.requires.0 in
-    let now = c.args.stack.now in
-    let struck = c.args.self.now.struck.items in
-    let rest = c.pop.new.self.items in
-    let aside = c.in-Some.aside in
-    let last = last_half start now struck c.args.self.now.asides.items rest aside c.in-Some.ensures.items c.requires.1
-    in
-    (last.half.before, its_mark start now struck rest aside last, its_over start now struck rest aside last)
-
-pub returns-in_err-strike-in-Some-clause-more : goal.returns-in_err-strike-in-Some-clause-more
-returns-in_err-strike-in-Some-clause-more c start searching =
-    let now = c.args.stack.now in
-    let struck = c.args.self.now.struck.items in
-    let rest = c.pop.new.self.items in
-    let aside = c.in-Some.aside in
-    let last = last_half start now struck c.args.self.now.asides.items rest aside c.in-Some.ensures.items searching in
-    back_over start now struck rest aside last c.back_to.new.self
-    (c.back_to.ensures last.half.before (its_mark start now struck rest aside last)
-    (its_over start now struck rest aside last))
+back_to-requires c = marked c.requires.under_way.0 c.args.stack.now c.args.self.now.asides.items c.pop.new.self.items
+    c.in-Some.aside c.args.self.now.struck.items c.args.self.now.values c.in-Some.ensures.items c.requires.under_way.1
 
 pub refute-requires : goal.refute-requires
-refute-requires c =
-    let start = c.requires.0 in
-    let now = c.args.stack.now in
-    let struck = c.args.self.now.struck.items in
-    let rest = c.pop.new.self.items in
-    let aside = c.in-Some.aside in
-    let last = last_half start now struck c.args.self.now.asides.items rest aside c.in-Some.ensures.items c.requires.1
-    in
-    back_part start now struck rest aside last c.back_to.new.self
-    (c.back_to.ensures last.half.before (its_mark start now struck rest aside last)
-    (its_over start now struck rest aside last))
-
-pub returns-in_err-refute-in-Some-clause-more : goal.returns-in_err-refute-in-Some-clause-more
-returns-in_err-refute-in-Some-clause-more c start searching =
-    let now = c.args.stack.now in
-    let struck = c.args.self.now.struck.items in
-    let rest = c.pop.new.self.items in
-    let aside = c.in-Some.aside in
-    let last = last_half start now struck c.args.self.now.asides.items rest aside c.in-Some.ensures.items searching in
-    over_both start c.back_to.new.self c.refute.new.self
-    (back_over start now struck rest aside last c.back_to.new.self
-    (c.back_to.ensures last.half.before (its_mark start now struck rest aside last)
-    (its_over start now struck rest aside last)))
-    c.refute.ensures.more
+refute-requires c = (
+  c.requires.under_way.0,
+  again_there c.requires.under_way.0 c.args.stack.now c.args.self.now.asides.items c.pop.new.self.items
+      c.in-Some.aside c.args.self.now.struck.items c.args.self.now.values c.in-Some.ensures.items
+      c.requires.under_way.1 c.back_to.new.self c.close.new.self c.back_to.ensures c.close.ensures.values
+      c.close.ensures.levels c.requires.step,
+)
 
 pub returns-in-Some-clause-ok : goal.returns-in-Some-clause-ok
-returns-in-Some-clause-ok c start searching step =
-    let now = c.args.stack.now in
-    let struck = c.args.self.now.struck.items in
-    let rest = c.pop.new.self.items in
-    let aside = c.in-Some.aside in
-    let last = last_half start now struck c.args.self.now.asides.items rest aside c.in-Some.ensures.items searching in
-    back_taken_up start now struck rest aside last c.back_to.new.self
-    (c.back_to.ensures last.half.before (its_mark start now struck rest aside last)
-    (its_over start now struck rest aside last))
-    c.refute.new.self c.strike.new.struck.items c.refute.ensures.more c.in_ok-refute-in-Some.ensures.ok
-    c.in_ok-strike-in-Some.ensures
-    step (same_formulas start now c.args.self.now.asides.items struck searching)
+returns-in-Some-clause-ok c = ok_then c.refute.result c.refute.ensures.ok (λ outcome follows start searching.
+    follows start
+    (again_there start c.args.stack.now c.args.self.now.asides.items c.pop.new.self.items
+    c.in-Some.aside c.args.self.now.struck.items c.args.self.now.values c.in-Some.ensures.items
+    searching c.back_to.new.self c.close.new.self c.back_to.ensures c.close.ensures.values
+    c.close.ensures.levels c.requires.step))
 
 pub returns-in-Some-clause-more : goal.returns-in-Some-clause-more
-returns-in-Some-clause-more c start searching =
-    let now = c.args.stack.now in
-    let struck = c.args.self.now.struck.items in
-    let rest = c.pop.new.self.items in
-    let aside = c.in-Some.aside in
-    let last = last_half start now struck c.args.self.now.asides.items rest aside c.in-Some.ensures.items searching in
-    over_both start c.back_to.new.self c.refute.new.self
-    (back_over start now struck rest aside last c.back_to.new.self
-    (c.back_to.ensures last.half.before (its_mark start now struck rest aside last)
-    (its_over start now struck rest aside last)))
+returns-in-Some-clause-more c start searching = over_both start c.back_to.new.self c.refute.new.stack
+    (over_back start c.args.stack.now c.args.self.now.asides.items c.pop.new.self.items
+    c.in-Some.aside c.args.self.now.struck.items c.args.self.now.values c.in-Some.ensures.items
+    searching c.back_to.new.self c.close.new.self c.back_to.ensures c.close.ensures.values
+    c.close.ensures.levels)
     c.refute.ensures.more
