@@ -1,0 +1,4 @@
+pub mod LeafLemmas
+pub mod TellLemmas
+pub mod BuildLemmas
+pub mod FollowLemmas

@@ -44,7 +44,7 @@ impl BranchValues {
 
     /// What the search does next. It costs the reading of a few sets and the places of one disjunction.
     pub fn next_step(&self) -> Result<Step, Memory>
-        ensures { IfOk result (λ step. (now : Assertions) (struck : List (ℕ × ℕ)) → AreValuesOf now struck self.now → IsStep now.formulas (branch_of now struck) step) }
+        ensures step { IfOk result (λ step. (now : Assertions) (struck : List (ℕ × ℕ)) → AreValuesOf now struck self.now → IsStep now.formulas (branch_of now struck) step) }
         ensures within { IfOk result (λ step. (now : Assertions) (struck : List (ℕ × ℕ)) → AreValuesOf now struck self.now → IsWithin (length now.formulas.nodes) step) }
     {
         Err(Memory)
