@@ -46,24 +46,25 @@ one_fresh nodes i node old new has enters fresh = record {
         ap (λ (m : Node). map f (take i nodes) ++ f m ∷ []) (get_or_from_slice_get nodes i node node has)
 
     many : length old.kinds ≡ i
-    many = ap length fresh.kinds ∙ length-map (take i nodes) kind_in ∙ length-take-le i nodes (omega arith)
+    many = ap length fresh.kinds ∙ length-map (take i nodes) kind_in ∙ length-take-le i nodes (omega (arith, within))
 
     count : length (take i nodes) ≡ i
-    count = length-take-le i nodes (omega arith)
+    count = length-take-le i nodes (omega (arith, within))
 
     count_more : length (take (i + 1) nodes) ≡ i + 1
-    count_more = length-take-le (i + 1) nodes (omega arith)
+    count_more = length-take-le (i + 1) nodes (omega (arith, within))
 
     leaf : (n : ℕ) → n < length (take (i + 1) nodes) → new.leaf n ≡ Unset
     leaf n stands = elim (cases_eq n (length old.kinds)) [
       | inl last ↦ ap new.leaf last ∙ enters.leaf_here
-      | inr other ↦ enters.leaf n (omega arith) ∙ fresh.leaf n (omega arith)
+      | inr other ↦ enters.leaf n (omega (arith, many, count_more)) ∙ fresh.leaf n (omega (arith, many, count, count_more))
     ]
 
     struck : (n place : ℕ) → n < length (take (i + 1) nodes) → new.struck n place ≡ false
     struck n place stands = elim (cases_eq n (length old.kinds)) [
       | inl last ↦ ap (λ (m : ℕ). new.struck m place) last ∙ enters.struck_here place
-      | inr other ↦ enters.struck n place (omega arith) ∙ fresh.struck n place (omega arith)
+      | inr other ↦ enters.struck n place (omega (arith, many, count_more)) ∙
+          fresh.struck n place (omega (arith, many, count, count_more))
     ]
 
 -- all nodes

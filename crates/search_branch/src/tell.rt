@@ -1,8 +1,10 @@
 //! What came is told to the values of nodes.
-ghost use Rattle.std.specs.Prelude.{◌≡◌, ◌<◌, ◌≤◌, length, map, take, All, Contains, OnOk};
+ghost use Rattle.std.specs.Prelude.{◌≡◌, ℕ, ◌<◌, ◌≤◌, length, map, take, All, Contains, OnOk};
 ghost use Rattle.search_values.specs.Kept.{given_of};
 ghost use Rattle.search_watch.specs.Service.{ServesNow};
 ghost use Rattle.search_branch.specs.Given.{kind_in};
+ghost use Rattle.formula_truth.specs.declared.truth.Truth.TheVariants.{Unset};
+ghost use Rattle.search_branch.specs.Built.{AreFresh};
 ghost use Rattle.search_branch.specs.Told.{KeepsNodes, KeepsLeaves, TellsLeaf, AreToldBut, AreTold, AreAsserted, TellsAll};
 
 use crate::leaf::leaf_truth;
@@ -97,4 +99,37 @@ pub(crate) fn tell_all(
 {
     assert_new(values, stack.asserted(), from)?;
     set_found(values, watch, stack, found)
+}
+
+/// Gives each leaf the value by what stands, where none has one yet.
+fn set_each(
+    values: &mut NodeValues,
+    watch: &Watch,
+    stack: &AssertionStack,
+) -> Result<(), AllocError>
+    requires kinds { (given_of values.old).kinds ≡ map kind_in stack.now.formulas.nodes }
+    requires serves { ServesNow stack.now.graph.standing watch.now }
+    requires unset { (n : ℕ) → n < length stack.now.formulas.nodes → (given_of values.old).leaf n ≡ Unset }
+    ensures told { OnOk result (AreTold stack.now.graph.standing stack.now.formulas.nodes (given_of values.new)) }
+    ensures keeps { OnOk result (KeepsNodes (given_of values.old) (given_of values.new)) }
+    ensures saved { values.new.saved ≡ values.old.saved }
+{
+    for n in 0..stack.formulas().len() {
+        set_one(values, watch, stack, n)?;
+    }
+    Ok(())
+}
+
+/// Tells all that stands to nodes of which nothing was told.
+pub(crate) fn tell_start(
+    values: &mut NodeValues,
+    watch: &Watch,
+    stack: &AssertionStack,
+) -> Result<(), AllocError>
+    requires fresh { AreFresh stack.now.formulas.nodes (given_of values.old) }
+    requires serves { ServesNow stack.now.graph.standing watch.now }
+    ensures tells { OnOk result (TellsAll stack.now (given_of values.old) (given_of values.new)) }
+{
+    assert_new(values, stack.asserted(), 0)?;
+    set_each(values, watch, stack)
 }
