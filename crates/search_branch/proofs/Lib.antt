@@ -1,6 +1,10 @@
 pub mod LeafLemmas
+pub mod LiteralLemmas
 pub mod NodeLemmas
 pub mod ValueLemmas
 pub mod ChoiceLemmas
 pub mod NextLemmas
 pub mod LevelLemmas
+pub mod TellLemmas
+pub mod BuildLemmas
+pub mod FollowLemmas

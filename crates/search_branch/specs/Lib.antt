@@ -2,3 +2,5 @@ pub mod Steps
 pub mod Given
 pub mod Right
 pub mod Levels
+pub mod Told
+pub mod Built

@@ -1,5 +1,5 @@
 //! The values of all formulas in a branch of the search.
-ghost use Rattle.std.specs.Prelude.{◌≡◌, ℕ, ◌<◌, ◌++◌, ◌∷◌, false, List, [], length, slice_get, Some, IfOk, OnOk};
+ghost use Rattle.std.specs.Prelude.{◌≡◌, ℕ, ◌<◌, ◌≤◌, ◌++◌, ◌∷◌, false, List, [], length, slice_get, Some, IfOk, OnOk};
 ghost use Rattle.formula_table.specs.declared.node.Node.TheVariants.{Or};
 ghost use Rattle.formula_value.specs.Holds.{HasNode};
 ghost use Rattle.formula_table.specs.declared.node.Node.{Node as SpecNode};
@@ -12,11 +12,16 @@ ghost use Rattle.search_branch.specs.declared.branch_values.BranchValues.{Branch
 ghost use Rattle.search_branch.specs.Right.{AreValuesOf};
 ghost use Rattle.search_branch.specs.Levels.{IsLevelOver};
 ghost use Rattle.search_branch.specs.Steps.{IsStep, IsWithin, branch_of};
+ghost use Rattle.search_branch.specs.Told.{HasCome};
 
+use crate::build::{is_lost, nodes_of, watch_of};
 use crate::step::Step;
+use crate::tell::{tell_all, tell_start};
 use formula_assert::AssertionStack;
+use graph_meaning::Union;
 use graph_terms::Memory;
 use search_values::NodeValues;
+use search_watch::laws::can_go_back_further;
 use search_watch::{Mark, Watch};
 use std::alloc::Global;
 
@@ -39,7 +44,17 @@ impl BranchValues {
         requires { stack.now.formulas.foralls ≡ [] }
         ensures { IfOk result (λ values. AreValuesOf stack.now [] values) }
     {
-        Err(Memory)
+        let _rules = stack.depth();
+        let watch = watch_of(alloc, stack)?;
+        let mut values = nodes_of(alloc, stack.formulas())?;
+        tell_start(&mut values, &watch, stack)?;
+        let lost = is_lost(stack.graph());
+        Ok(BranchValues {
+            values,
+            watch,
+            marks: Vec::new(alloc),
+            lost,
+        })
     }
 
     /// What the search does next. It costs the reading of a few sets and the places of one disjunction.
@@ -55,7 +70,11 @@ impl BranchValues {
         ensures over { OnOk result (IsLevelOver self.old self.new) }
         ensures values { OnOk result ((now : Assertions) (struck : List (ℕ × ℕ)) → AreValuesOf now struck self.old → AreValuesOf now struck self.new) }
     {
-        Err(Memory)
+        let mark = self.watch.mark();
+        self.marks.reserve(1)?;
+        self.values.push()?;
+        self.marks.push_reserved(mark);
+        Ok(())
     }
 
     /// Ends the innermost level: the values are those that were there when it was opened. It takes no memory.
@@ -69,6 +88,34 @@ impl BranchValues {
             self.watch.back_to(mark);
             self.lost = false;
         }
+    }
+
+    /// Follows the stack over these unions, and over the differences and the asserted nodes behind so many.
+    fn follow(
+        &mut self,
+        alloc: Global,
+        stack: &AssertionStack,
+        unions: &[Union],
+        asserted: usize,
+        differs: usize,
+    ) -> Result<(), Memory>
+        requires calm { self.old.lost ≡ false }
+        requires within { asserted ≤ length stack.now.asserted }
+        requires come { (was : Assertions) × (struck : List (ℕ × ℕ)) × HasCome was stack.now unions.now asserted differs × AreValuesOf was struck self.old }
+        ensures values { OnOk result ((was : Assertions) (struck : List (ℕ × ℕ)) → HasCome was stack.now unions.now asserted differs → AreValuesOf was struck self.old → AreValuesOf stack.now struck self.new) }
+        ensures level { OnOk result ((before : ValuesOf) → IsLevelOver before self.old → IsLevelOver before self.new) }
+    {
+        let _rules = stack.depth();
+        can_go_back_further();
+        let graph = stack.graph();
+        let mut found = Vec::new(alloc);
+        let clash = self.watch.follow(graph, unions, graph.differences(), differs, &mut found)?;
+        self.lost = clash;
+        if clash {
+            return Ok(());
+        }
+        tell_all(&mut self.values, &self.watch, stack, asserted, &found)?;
+        Ok(())
     }
 
     /// Asserts a formula in the stack, with all that it stands for. There may be no clash. After want of memory the values

@@ -9,6 +9,7 @@ mod build;
 mod leaf;
 mod next;
 pub mod step;
+mod tell;
 
 pub use branch_values::BranchValues;
 pub use step::Step;

@@ -1,0 +1,135 @@
+//! What came is told to the values of nodes.
+ghost use Rattle.std.specs.Prelude.{◌≡◌, ℕ, ◌<◌, ◌≤◌, length, map, take, All, Contains, OnOk};
+ghost use Rattle.search_values.specs.Kept.{given_of};
+ghost use Rattle.search_watch.specs.Service.{ServesNow};
+ghost use Rattle.search_branch.specs.Given.{kind_in};
+ghost use Rattle.formula_truth.specs.declared.truth.Truth.TheVariants.{Unset};
+ghost use Rattle.search_branch.specs.Built.{AreFresh};
+ghost use Rattle.search_branch.specs.Told.{KeepsNodes, KeepsLeaves, TellsLeaf, AreToldBut, AreTold, AreAsserted, TellsAll};
+
+use crate::leaf::leaf_truth;
+use formula_assert::AssertionStack;
+use formula_truth::is_set;
+use search_values::NodeValues;
+use search_watch::Watch;
+use std::alloc::AllocError;
+
+/// Gives a leaf that has no value the one by what stands, if there is one.
+fn set_one(
+    values: &mut NodeValues,
+    watch: &Watch,
+    stack: &AssertionStack,
+    n: u32,
+) -> Result<(), AllocError>
+    requires stands { n < length stack.now.formulas.nodes }
+    requires kinds { (given_of values.old).kinds ≡ map kind_in stack.now.formulas.nodes }
+    requires serves { ServesNow stack.now.graph.standing watch.now }
+    ensures tells { OnOk result (TellsLeaf stack.now.graph.standing stack.now.formulas.nodes n (given_of values.old) (given_of values.new)) }
+    ensures saved { values.new.saved ≡ values.old.saved }
+{
+    if is_set(values.value(n)) {
+        return Ok(());
+    }
+    let _rules = stack.depth();
+    let truth = leaf_truth(stack.graph(), watch, stack.formulas().node(n));
+    if is_set(truth) {
+        values.set_leaf(n, truth)?;
+    }
+    Ok(())
+}
+
+/// Gives each leaf among these that has no value the one by what stands, if there is one.
+pub(crate) fn set_found(
+    values: &mut NodeValues,
+    watch: &Watch,
+    stack: &AssertionStack,
+    found: &[u32],
+) -> Result<(), AllocError>
+    requires kinds { (given_of values.old).kinds ≡ map kind_in stack.now.formulas.nodes }
+    requires serves { ServesNow stack.now.graph.standing watch.now }
+    requires stand { All (λ n. n < length stack.now.formulas.nodes) found.now }
+    requires told { AreToldBut (Contains found.now) stack.now.graph.standing stack.now.formulas.nodes (given_of values.old) }
+    ensures told { OnOk result (AreTold stack.now.graph.standing stack.now.formulas.nodes (given_of values.new)) }
+    ensures keeps { OnOk result (KeepsNodes (given_of values.old) (given_of values.new)) }
+    ensures saved { values.new.saved ≡ values.old.saved }
+{
+    for i in 0..found.len() {
+        set_one(values, watch, stack, found[i])?;
+    }
+    Ok(())
+}
+
+/// Asserts each node from this place of the list on. A number that no node has is passed over.
+pub(crate) fn assert_new(
+    values: &mut NodeValues,
+    asserted: &[u32],
+    from: usize,
+) -> Result<(), AllocError>
+    requires from { from ≤ length asserted.now }
+    requires before { AreAsserted (take from asserted.now) (given_of values.old) }
+    ensures asserted { OnOk result (AreAsserted asserted.now (given_of values.new)) }
+    ensures keeps { OnOk result (KeepsLeaves (given_of values.old) (given_of values.new)) }
+    ensures saved { values.new.saved ≡ values.old.saved }
+{
+    for i in from..asserted.len() {
+        let n = asserted[i];
+        if n < values.len() {
+            values.assert(n)?;
+        }
+    }
+    Ok(())
+}
+
+/// Tells the nodes that are asserted from this place of the stack's list on, and the values of leaves that were found.
+pub(crate) fn tell_all(
+    values: &mut NodeValues,
+    watch: &Watch,
+    stack: &AssertionStack,
+    from: usize,
+    found: &[u32],
+) -> Result<(), AllocError>
+    requires from { from ≤ length stack.now.asserted }
+    requires before { AreAsserted (take from stack.now.asserted) (given_of values.old) }
+    requires kinds { (given_of values.old).kinds ≡ map kind_in stack.now.formulas.nodes }
+    requires serves { ServesNow stack.now.graph.standing watch.now }
+    requires stand { All (λ n. n < length stack.now.formulas.nodes) found.now }
+    requires told { AreToldBut (Contains found.now) stack.now.graph.standing stack.now.formulas.nodes (given_of values.old) }
+    ensures tells { OnOk result (TellsAll stack.now (given_of values.old) (given_of values.new)) }
+    ensures saved { values.new.saved ≡ values.old.saved }
+{
+    assert_new(values, stack.asserted(), from)?;
+    set_found(values, watch, stack, found)
+}
+
+/// Gives each leaf the value by what stands, where none has one yet.
+fn set_each(
+    values: &mut NodeValues,
+    watch: &Watch,
+    stack: &AssertionStack,
+) -> Result<(), AllocError>
+    requires kinds { (given_of values.old).kinds ≡ map kind_in stack.now.formulas.nodes }
+    requires serves { ServesNow stack.now.graph.standing watch.now }
+    requires unset { (n : ℕ) → n < length stack.now.formulas.nodes → (given_of values.old).leaf n ≡ Unset }
+    ensures told { OnOk result (AreTold stack.now.graph.standing stack.now.formulas.nodes (given_of values.new)) }
+    ensures keeps { OnOk result (KeepsNodes (given_of values.old) (given_of values.new)) }
+    ensures saved { values.new.saved ≡ values.old.saved }
+{
+    for n in 0..stack.formulas().len() {
+        set_one(values, watch, stack, n)?;
+    }
+    Ok(())
+}
+
+/// Tells all that stands to nodes of which nothing was told.
+pub(crate) fn tell_start(
+    values: &mut NodeValues,
+    watch: &Watch,
+    stack: &AssertionStack,
+) -> Result<(), AllocError>
+    requires fresh { AreFresh stack.now.formulas.nodes (given_of values.old) }
+    requires serves { ServesNow stack.now.graph.standing watch.now }
+    ensures tells { OnOk result (TellsAll stack.now (given_of values.old) (given_of values.new)) }
+{
+    assert_new(values, stack.asserted(), 0)?;
+    set_each(values, watch, stack)
+}
