@@ -56,8 +56,8 @@ told_more waits waits' standing nodes n old new less tells told m node has =
     there : (m ≡ n → ⊥) → IsLeafTruth standing node (old.leaf m) ⊎ ((old.leaf m ≡ Unset) × waits m) →
         IsLeafTruth standing node (new.leaf m) ⊎ ((new.leaf m ≡ Unset) × waits' m)
     there other (inl is) = inl (
-      subst (λ (truth : Truth). IsLeafTruth standing node truth) (sym (tells.sets.others m other)) is
-    )
+        subst (λ (truth : Truth). IsLeafTruth standing node truth) (sym (tells.sets.others m other)) is
+        )
     there other (inr unset) = inr (tells.sets.others m other ∙ unset.0, less m unset.1 other)
 
 -- of a list another element is in the rest
@@ -79,8 +79,8 @@ pub all_told : (waits : ℕ → Type 0) (standing : List Done) (nodes : List Nod
     ((n : ℕ) → n < length nodes → waits n → ⊥) → AreToldBut waits standing nodes given → AreTold standing nodes given
 all_told waits standing nodes given none told n node has =
     elim (told n node has) [
-    | inl is ↦ is
-    | inr unset ↦ absurd (none n (slice_get_within nodes n node has) unset.1)
+      | inl is ↦ is
+      | inr unset ↦ absurd (none n (slice_get_within nodes n node has) unset.1)
     ]
 
 -- nothing is in the rest behind a list
@@ -118,8 +118,8 @@ module _ (xs : List ℕ) (i n : ℕ) (within : i < length xs) (is : n ≡ get_or
   on_before : (m : ℕ) → Contains (take (i + 1) xs) m → (m ≡ n → ⊥) → Contains (take i xs) m
   on_before m on other =
       elim (Contains-push_cases (take i xs) n m (subst (λ (ys : List ℕ). Contains ys m) longer on)) [
-      | inl before ↦ before
-      | inr same ↦ absurd (other (sym same))
+        | inl before ↦ before
+        | inr same ↦ absurd (other (sym same))
       ]
 
   -- the next of the list is asserted
@@ -127,16 +127,15 @@ module _ (xs : List ℕ) (i n : ℕ) (within : i < length xs) (is : n ≡ get_or
       AreAsserted (take (i + 1) xs) new
   asserted_more old new asserts before m stands =
       elim (cases_eq m n) [
-      | inl same ↦ (
-        λ _. subst (λ (k : ℕ). Contains (take (i + 1) xs) k) (sym same) next_on,
-        λ _. ap new.asserted same ∙ asserts.here,
-      )
-      | inr other ↦
-          let was = before m (subst (λ (count : ℕ). m < count) (ap length asserts.kinds) stands) in
-          (
-            λ on. still_on m (was.0 (sym (asserts.others m other) ∙ on)),
-            λ on. asserts.others m other ∙ was.1 (on_before m on other),
-          )
+        | inl same ↦ (
+          λ _. subst (λ (k : ℕ). Contains (take (i + 1) xs) k) (sym same) next_on,
+          λ _. ap new.asserted same ∙ asserts.here,
+        )
+        | inr other ↦
+            let was = before m (subst (λ (count : ℕ). m < count) (ap length asserts.kinds) stands) in (
+              λ on. still_on m (was.0 (sym (asserts.others m other) ∙ on)),
+              λ on. asserts.others m other ∙ was.1 (on_before m on other),
+            )
       ]
 
   -- the number of no node is passed over

@@ -15,6 +15,7 @@ ghost use Rattle.search_branch.specs.Steps.{IsStep, IsWithin, branch_of};
 ghost use Rattle.search_branch.specs.Told.{HasCome};
 
 use crate::build::{is_lost, nodes_of, watch_of};
+use crate::next::next_of;
 use crate::step::Step;
 use crate::tell::{tell_all, tell_start};
 use formula_assert::AssertionStack;
@@ -58,11 +59,14 @@ impl BranchValues {
     }
 
     /// What the search does next. It costs the reading of a few sets and the places of one disjunction.
-    pub fn next_step(&self) -> Result<Step, Memory>
-        ensures step { IfOk result (λ step. (now : Assertions) (struck : List (ℕ × ℕ)) → AreValuesOf now struck self.now → IsStep now.formulas (branch_of now struck) step) }
-        ensures within { IfOk result (λ step. (now : Assertions) (struck : List (ℕ × ℕ)) → AreValuesOf now struck self.now → IsWithin (length now.formulas.nodes) step) }
+    pub fn next_step(&self) -> Step
+        ensures step { (now : Assertions) (struck : List (ℕ × ℕ)) → AreValuesOf now struck self.now → IsStep now.formulas (branch_of now struck) result }
+        ensures within { (now : Assertions) (struck : List (ℕ × ℕ)) → AreValuesOf now struck self.now → IsWithin (length now.formulas.nodes) result }
     {
-        Err(Memory)
+        if self.lost {
+            return Step::Lost;
+        }
+        next_of(&self.values)
     }
 
     /// Opens a level. Without memory all is as before.
@@ -109,7 +113,9 @@ impl BranchValues {
         can_go_back_further();
         let graph = stack.graph();
         let mut found = Vec::new(alloc);
-        let clash = self.watch.follow(graph, unions, graph.differences(), differs, &mut found)?;
+        let clash = self
+            .watch
+            .follow(graph, unions, graph.differences(), differs, &mut found)?;
         self.lost = clash;
         if clash {
             return Ok(());
@@ -134,34 +140,13 @@ impl BranchValues {
         ensures values { OnOk result ((struck : List (ℕ × ℕ)) → AreValuesOf stack.old struck self.old → AreValuesOf stack.new struck self.new) }
         ensures level { OnOk result ((before : ValuesOf) → IsLevelOver before self.old → IsLevelOver before self.new) }
     {
-        Err(Memory)
+        let asserted = stack.asserted().len();
+        let differs = stack.graph().differences().len();
+        let mut unions = Vec::new(alloc);
+        stack.assert_entered(part, &mut unions)?;
+        self.follow(alloc, stack, &unions, asserted, differs)
     }
 
     /// Strikes a place of a disjunction, and refutes its part in the stack. There may be no clash. After want of memory the
     /// values are those of nothing.
-    pub fn refute(
-        &mut self,
-        alloc: Global,
-        stack: &mut AssertionStack,
-        node: u32,
-        place: u32,
-        part: u32,
-    ) -> Result<(), Memory>
-        requires place { (parts : List ℕ) × HasNode stack.old.formulas.nodes node (Or parts) × (slice_get parts place ≡ Some part) }
-        requires calm { self.old.lost ≡ false }
-        requires values { (struck : List (ℕ × ℕ)) × AreValuesOf stack.old struck self.old }
-        ensures refutes { OnOk result ((literal : SpecNode) → HasNode stack.old.formulas.nodes part literal → held_of stack.new ≡ held (replay stack.old.graph (refuting_of literal)) stack.old.asserted) }
-        ensures more { HoldsMoreOver stack.old stack.new }
-        ensures values { OnOk result ((struck : List (ℕ × ℕ)) → AreValuesOf stack.old struck self.old → AreValuesOf stack.new (struck ++ (node, place) ∷ []) self.new) }
-        ensures level { OnOk result ((before : ValuesOf) → IsLevelOver before self.old → IsLevelOver before self.new) }
-    {
-        Err(Memory)
-    }
-
-    /// Whether two terms that are kept apart are equal.
-    pub fn is_lost(&self) -> bool
-        ensures { result ≡ self.now.lost }
-    {
-        self.lost
-    }
 }

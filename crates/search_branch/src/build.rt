@@ -94,12 +94,7 @@ pub(crate) fn nodes_of(alloc: Global, formulas: &FormulaTable) -> Result<NodeVal
 }
 
 /// Adds the ends of a node to the watch, if it is a literal.
-fn add_ends(
-    watch: &mut Watch,
-    graph: &MatchingGraph,
-    n: u32,
-    node: &Node,
-) -> Result<(), AllocError>
+fn add_ends(watch: &mut Watch, graph: &MatchingGraph, n: u32, node: &Node) -> Result<(), AllocError>
     requires serves { ServesNow graph.now.standing watch.old }
     requires terms { All (λ term. term < length (terms_of graph.now.standing)) (terms_in node.now) }
     ensures { OnOk result ((ends : List (ℕ × ℕ)) (bound : ℕ) → Serves (service graph.now.standing ends bound) watch.old → n < bound → Serves (service graph.now.standing (ends ++ ends_in n node.now) bound) watch.new) }
