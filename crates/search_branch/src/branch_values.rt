@@ -149,4 +149,28 @@ impl BranchValues {
 
     /// Strikes a place of a disjunction, and refutes its part in the stack. There may be no clash. After want of memory the
     /// values are those of nothing.
+    pub fn refute(
+        &mut self,
+        alloc: Global,
+        stack: &mut AssertionStack,
+        node: u32,
+        place: u32,
+        part: u32,
+    ) -> Result<(), Memory>
+        requires place { (parts : List ℕ) × HasNode stack.old.formulas.nodes node (Or parts) × (slice_get parts place ≡ Some part) }
+        requires calm { self.old.lost ≡ false }
+        requires values { (struck : List (ℕ × ℕ)) × AreValuesOf stack.old struck self.old }
+        ensures refutes { OnOk result ((literal : SpecNode) → HasNode stack.old.formulas.nodes part literal → held_of stack.new ≡ held (replay stack.old.graph (refuting_of literal)) stack.old.asserted) }
+        ensures more { HoldsMoreOver stack.old stack.new }
+        ensures values { OnOk result ((struck : List (ℕ × ℕ)) → AreValuesOf stack.old struck self.old → AreValuesOf stack.new (struck ++ (node, place) ∷ []) self.new) }
+        ensures level { OnOk result ((before : ValuesOf) → IsLevelOver before self.old → IsLevelOver before self.new) }
+    {
+        let asserted = stack.asserted().len();
+        let differs = stack.graph().differences().len();
+        let mut unions = Vec::new(alloc);
+        stack.refute(part, &mut unions)?;
+        self.follow(alloc, stack, &unions, asserted, differs)?;
+        self.values.strike(node, place)?;
+        Ok(())
+    }
 }
