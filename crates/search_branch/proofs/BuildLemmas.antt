@@ -1,11 +1,10 @@
 -- The nodes and the ends of a table, one node after the other.
-use Rattle.std.proofs.Common.{zero, suc, ◌≡◌, ◌⊎◌, inl, inr, ◌↔◌, ℕ, ◌+◌, ◌<◌, ◌≤◌, Bool, true, false, List, [], ◌∷◌, ◌++◌, length, map, take, slice_index_or, get_or, slice_get, Some, Contains, refl, sym, ap, subst, ◌∙◌, arith}
-use Rattle.std.proofs.lemmas.Bool.{cases_eq, cases_lt}
+use Rattle.std.proofs.Common.{zero, suc, ◌≡◌, inl, inr, ℕ, ◌+◌, ◌<◌, ◌≤◌, false, List, [], ◌∷◌, ◌++◌, length, map, take, Contains, refl, sym, ap, subst, ◌∙◌, arith}
+use Rattle.std.proofs.lemmas.Bool.{cases_eq}
 use Rattle.std.proofs.lemmas.Option.{slice_get_within, get_or_from_slice_get, same_Some}
 use Rattle.std.proofs.lemmas.List.{map_more, take_all, append_assoc, append-nil, length-map, length-take-le}
 use Rattle.std.proofs.lemmas.List.Elements.{Contains-append_left, Contains-append_right}
 use Rattle.formula_table.specs.declared.node.Node.{Node}
-use Rattle.formula_table.specs.declared.node.Node.TheVariants.{Equal, Atom, And, Or, Forall}
 use Rattle.formula_truth.specs.declared.truth.Truth.TheVariants.{Unset}
 use Rattle.formula_value.specs.Holds.{HasNode}
 use Rattle.search_board.specs.declared.kind.Kind.{Kind}
@@ -57,7 +56,8 @@ one_fresh nodes i node old new has enters fresh = record {
     leaf : (n : ℕ) → n < length (take (i + 1) nodes) → new.leaf n ≡ Unset
     leaf n stands = elim (cases_eq n (length old.kinds)) [
       | inl last ↦ ap new.leaf last ∙ enters.leaf_here
-      | inr other ↦ enters.leaf n (omega (arith, many, count_more)) ∙ fresh.leaf n (omega (arith, many, count, count_more))
+      | inr other ↦ enters.leaf n (omega (arith, many, count_more)) ∙
+          fresh.leaf n (omega (arith, many, count, count_more))
     ]
 
     struck : (n place : ℕ) → n < length (take (i + 1) nodes) → new.struck n place ≡ false

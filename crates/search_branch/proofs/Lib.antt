@@ -6,6 +6,7 @@ pub mod ChoiceLemmas
 pub mod NextLemmas
 pub mod LevelLemmas
 pub mod TellLemmas
+pub mod StartLemmas
 pub mod BuildLemmas
 pub mod FollowLemmas
 pub mod BranchLemmas

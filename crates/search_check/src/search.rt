@@ -161,8 +161,7 @@ impl Search {
         ensures ok { IfOk result (λ outcome. (start : Assertions) → IsSearching start stack.old self.old → GoesOn start stack.new self.new outcome) }
         ensures more { (start : Assertions) → IsSearching start stack.old self.old → HoldsMoreOver start stack.new }
     {
-        let step = self.values.next_step()?;
-        match step {
+        match self.values.next_step() {
             Step::Lost => return self.take_up(alloc, stack),
             Step::Assert { part } => return self.assert(alloc, stack, part),
             Step::Split { node, place, part } => {

@@ -1,4 +1,4 @@
-//! What whoever embeds the assertions writes: a formula is asserted in a level, and goes with it; unions are listed.
+//! What whoever embeds the assertions writes: a formula is asserted in a level, and goes with it.
 use super::entry::atom;
 use formula_assert::AssertionStack;
 use formula_draft::Formula;
@@ -20,32 +20,10 @@ fn terms_in_level(alloc: Global, formula: &Formula) -> Result<(u32, u32), EnterF
     Ok((inside, after))
 }
 
-/// How many unions are listed once the first node is asserted again, and once it is refuted.
-fn listed_unions(alloc: Global, formula: &Formula) -> Result<(usize, usize), EnterFault> {
-    let mut stack = AssertionStack::new(alloc, 100, 100)?;
-    stack.assert(formula)?;
-    let mut unions = Vec::new(alloc);
-    if stack.formulas().len() == 0 {
-        return Ok((0, 0));
-    }
-    stack.assert_entered(0, &mut unions)?;
-    let again = unions.len();
-    stack.refute(0, &mut unions)?;
-    Ok((again, unions.len()))
-}
-
 #[test]
 fn what_came_in_a_level_goes_with_it(rt: HostRuntime) -> Result<(), Fail> {
     let alloc = rt.alloc();
     let formula = atom(alloc)?;
     assert_eq!(rt; terms_in_level(alloc, &formula)?, (3, 2));
-    Ok(())
-}
-
-#[test]
-fn what_refutes_an_atom_lists_a_union(rt: HostRuntime) -> Result<(), Fail> {
-    let alloc = rt.alloc();
-    let formula = atom(alloc)?;
-    assert_eq!(rt; listed_unions(alloc, &formula)?, (0, 1));
     Ok(())
 }

@@ -5,5 +5,5 @@ use Rattle.search_branch.proofs.build.watch_of.Given as goal
 
 abbrev pub invariant-loop-n : goal.invariant-loop-n
 invariant-loop-n l =
-    Serves (service l.stack.graph.standing (ends_of 0 (take l.n l.stack.formulas.nodes)) (length l.stack.formulas.nodes))
-    l.watch
+    let nodes = l.stack.formulas.nodes in
+    Serves (service l.stack.graph.standing (ends_of 0 (take l.n nodes)) (length nodes)) l.watch

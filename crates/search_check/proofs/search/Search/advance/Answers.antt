@@ -20,25 +20,20 @@ module _ (now : Assertions) (struck : List (ℕ × ℕ)) (values : BranchValues)
       IsWithin (length stood.formulas.nodes) found) → IsWithin (length now.formulas.nodes) step
   within_there within = subst (IsWithin (length now.formulas.nodes)) same (within now struck right)
 
-pub returns-in_err-step-clause-more : goal.returns-in_err-step-clause-more
-returns-in_err-step-clause-more c start searching =
-    over_start start c.args.stack.now c.args.self.now.asides.items c.args.self.now.struck.items
-    c.args.self.now.values searching
-
 pub take_up-requires-clause-under_way : goal.take_up-requires-clause-under_way
 take_up-requires-clause-under_way c = c.requires
 
 pub take_up-requires-clause-step : goal.take_up-requires-clause-step
 take_up-requires-clause-step c = step_there c.args.stack.now c.args.self.now.struck.items
-    c.args.self.now.values c.in_ok-step.step Lost c.in-Lost.is c.requires.1.right c.in_ok-step.ensures.step
+    c.args.self.now.values c.next_step.result Lost c.in-Lost.is c.requires.1.right c.next_step.ensures.step
 
 pub assert-requires : goal.assert-requires
 assert-requires c = record {
   stands = within_there c.args.stack.now c.args.self.now.struck.items c.args.self.now.values
-      c.in_ok-step.step (Assert c.in-Assert.part) c.in-Assert.is c.requires.1.right c.in_ok-step.ensures.within;
+      c.next_step.result (Assert c.in-Assert.part) c.in-Assert.is c.requires.1.right c.next_step.ensures.within;
   values = c.requires.1.right;
   step = step_there c.args.stack.now c.args.self.now.struck.items c.args.self.now.values
-      c.in_ok-step.step (Assert c.in-Assert.part) c.in-Assert.is c.requires.1.right c.in_ok-step.ensures.step;
+      c.next_step.result (Assert c.in-Assert.part) c.in-Assert.is c.requires.1.right c.next_step.ensures.step;
 }
 
 pub returns-in-Assert-clause-more : goal.returns-in-Assert-clause-more
@@ -52,10 +47,10 @@ split-requires c =
     let step = Split c.in-Split.node c.in-Split.place c.in-Split.part in
     record {
       stands = within_there c.args.stack.now c.args.self.now.struck.items c.args.self.now.values
-          c.in_ok-step.step step c.in-Split.is c.requires.1.right c.in_ok-step.ensures.within;
+          c.next_step.result step c.in-Split.is c.requires.1.right c.next_step.ensures.within;
       values = c.requires.1.right;
       step = step_there c.args.stack.now c.args.self.now.struck.items c.args.self.now.values
-          c.in_ok-step.step step c.in-Split.is c.requires.1.right c.in_ok-step.ensures.step;
+          c.next_step.result step c.in-Split.is c.requires.1.right c.next_step.ensures.step;
     }
 
 pub returns-in-Split-clause-more : goal.returns-in-Split-clause-more
@@ -66,7 +61,7 @@ returns-in-Split-clause-more c start searching = over_both start c.args.stack.no
 
 pub way_out-requires : goal.way_out-requires
 way_out-requires c = step_there c.args.stack.now c.args.self.now.struck.items
-    c.args.self.now.values c.in_ok-step.step WayOut c.in-WayOut.is c.requires.1.right c.in_ok-step.ensures.step
+    c.args.self.now.values c.next_step.result WayOut c.in-WayOut.is c.requires.1.right c.next_step.ensures.step
 
 pub returns-in-WayOut-clause-more : goal.returns-in-WayOut-clause-more
 returns-in-WayOut-clause-more c start searching =
