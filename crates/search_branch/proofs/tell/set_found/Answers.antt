@@ -11,11 +11,13 @@ loop-i-preserved c =
     let nodes = c.args.stack.now.formulas.nodes in
     let found = c.args.found.now in
     let n = get_or found c.loop-i.i 0 in
-    let is = sym (get_or_from_slice_get found c.loop-i.i n n (slice_get-get_or found c.loop-i.i 0 c.loop-i-test.true)) in
+    let at = slice_get-get_or found c.loop-i.i 0 c.loop-i-test.true in
+    let is = sym (get_or_from_slice_get found c.loop-i.i n n at) in
+    let waits = λ (i m : ℕ). Contains (drop i found) m in
     record {
       kinds = tells.sets.kinds ∙ c.loop-i.invariant.kinds;
-      told = told_more (λ (m : ℕ). Contains (drop c.loop-i.i found) m) (λ (m : ℕ). Contains (drop (c.loop-i.i + 1) found) m)
-          standing nodes n (given_of c.loop-i.values) (given_of c.set_one.new.values)
+      told = told_more (waits c.loop-i.i) (waits (c.loop-i.i + 1)) standing nodes n (given_of c.loop-i.values)
+          (given_of c.set_one.new.values)
           (λ m within other. drop_waits found c.loop-i.i n m c.loop-i-test.true is within other) tells
           c.loop-i.invariant.told;
       keeps = keeps_more standing nodes n (given_of c.args.values.now) (given_of c.loop-i.values)
