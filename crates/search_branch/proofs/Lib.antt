@@ -9,3 +9,4 @@ pub mod TellLemmas
 pub mod StartLemmas
 pub mod BuildLemmas
 pub mod FollowLemmas
+pub mod ToldLemmas
