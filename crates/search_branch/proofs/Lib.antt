@@ -10,3 +10,4 @@ pub mod StartLemmas
 pub mod BuildLemmas
 pub mod FollowLemmas
 pub mod ToldLemmas
+pub mod BranchLemmas
