@@ -1,8 +1,8 @@
 -- The nodes and the ends of a table, one node after the other.
-use Rattle.std.proofs.Common.{zero, suc, ◌≡◌, inl, inr, ℕ, ◌+◌, ◌<◌, ◌≤◌, false, List, [], ◌∷◌, ◌++◌, length, map, take, Contains, refl, sym, ap, subst, ◌∙◌, arith}
+use Rattle.std.proofs.Common.{zero, suc, ◌≡◌, inl, inr, ℕ, ◌+◌, ◌<◌, false, List, [], ◌∷◌, ◌++◌, length, map, take, Contains, sym, ap, subst, ◌∙◌, arith}
 use Rattle.std.proofs.lemmas.Bool.{cases_eq}
 use Rattle.std.proofs.lemmas.Option.{slice_get_within, get_or_from_slice_get, same_Some}
-use Rattle.std.proofs.lemmas.List.{map_more, take_all, append_assoc, append-nil, length-map, length-take-le}
+use Rattle.std.proofs.lemmas.List.{map_more, append_assoc, append-nil, length-map, length-take-le}
 use Rattle.std.proofs.lemmas.List.Elements.{Contains-append_left, Contains-append_right}
 use Rattle.formula_table.specs.declared.node.Node.{Node}
 use Rattle.formula_truth.specs.declared.truth.Truth.TheVariants.{Unset}
@@ -10,20 +10,8 @@ use Rattle.formula_value.specs.Holds.{HasNode}
 use Rattle.search_board.specs.declared.kind.Kind.{Kind}
 use Rattle.search_values.specs.Given.{Given}
 use Rattle.search_values.specs.Changes.{EntersNode}
-use Rattle.search_values.specs.Kept.{given_of, no_values}
-use Rattle.search_values.specs.declared.up.Up.{Up}
 use Rattle.search_branch.specs.Given.{kind_in, parts_in, ends_in, ends_of}
 use Rattle.search_branch.specs.Built.{AreFresh}
-
--- no nodes
-pub none_fresh : (nodes : List Node) (ups : List (List Up)) → AreFresh (take 0 nodes) (given_of (no_values ups))
-none_fresh nodes ups = record {
-  kinds = refl;
-  parts = refl;
-  leaf = λ n stands. absurd (omega arith);
-  asserted = λ n. refl;
-  struck = λ n place stands. absurd (omega arith);
-}
 
 -- one node more
 pub one_fresh : (nodes : List Node) (i : ℕ) (node : Node) (old new : Given) → HasNode nodes i node →
@@ -66,11 +54,6 @@ one_fresh nodes i node old new has enters fresh = record {
       | inr other ↦ enters.struck n place (omega (arith, many, count_more)) ∙
           fresh.struck n place (omega (arith, many, count, count_more))
     ]
-
--- all nodes
-pub all_fresh : (nodes : List Node) (i : ℕ) (given : Given) → length nodes ≤ i → AreFresh (take i nodes) given →
-    AreFresh nodes given
-all_fresh nodes i given past fresh = subst (λ (ns : List Node). AreFresh ns given) (take_all i nodes past) fresh
 
 -- ---- ends
 

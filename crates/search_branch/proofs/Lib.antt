@@ -9,4 +9,5 @@ pub mod TellLemmas
 pub mod StartLemmas
 pub mod BuildLemmas
 pub mod FollowLemmas
+pub mod ToldLemmas
 pub mod BranchLemmas
