@@ -8,3 +8,4 @@ pub mod LevelLemmas
 pub mod TellLemmas
 pub mod BuildLemmas
 pub mod FollowLemmas
+pub mod ComeLemmas
