@@ -9,3 +9,4 @@ pub mod TellLemmas
 pub mod BuildLemmas
 pub mod FollowLemmas
 pub mod ComeLemmas
+pub mod ToldLemmas

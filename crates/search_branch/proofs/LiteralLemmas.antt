@@ -1,9 +1,9 @@
 -- The value of one leaf.
-use Rattle.std.proofs.Common.{zero, suc, ◌≡◌, ◌⊎◌, inl, inr, ℕ, ◌+◌, ◌<◌, true, false, Bool, List, [], ◌∷◌, ◌++◌, length, map, slice_index_or, slice_get, Some, refl, sym, ap, subst, ◌∙◌, arith}
-use Rattle.std.proofs.lemmas.Option.{slice_get_within, get_or_from_slice_get, same_Some, slice_get-get_or}
-use Rattle.std.proofs.lemmas.List.{get_or-map, length-map}
+use Rattle.std.proofs.Common.{◌≡◌, ◌⊎◌, inl, inr, ℕ, true, false, Bool, List, map, slice_index_or}
+use Rattle.std.proofs.Common.{refl, sym, ap, ◌∙◌}
+use Rattle.std.proofs.lemmas.Option.{slice_get_within, get_or_from_slice_get}
+use Rattle.std.proofs.lemmas.List.{get_or-map}
 use Rattle.graph_meaning.specs.declared.done.Done.{Done}
-use Rattle.graph_meaning.specs.Standing.{terms_of}
 use Rattle.formula_table.specs.declared.node.Node.{Node}
 use Rattle.formula_table.specs.declared.node.Node.TheVariants.{Equal, Atom, And, Or, Forall}
 use Rattle.formula_truth.specs.declared.truth.Truth.{Truth}
@@ -17,10 +17,6 @@ use Rattle.search_values.specs.Given as values_given
 use Rattle.search_values.specs.Changes.{SetsLeaf}
 use Rattle.search_branch.specs.Given.{IsLeafTruth, kind_in}
 use Rattle.search_branch.specs.Told.{TellsLeaf}
-
--- true and false stand
-pub two_terms : (standing : List Done) → 1 < length (terms_of standing)
-two_terms standing = omega arith
 
 -- a turned value is Unset just where the value is
 pub unset_turned : (positive : Bool) (truth : Truth) → turn_of positive truth ≡ Unset → truth ≡ Unset
@@ -61,15 +57,6 @@ set_leaf_has : (given : Given) (n : ℕ) (truth : Truth) → kind_of given n ≡
 set_leaf_has given n Yes kind has set unset = let h = yes_leaf given n kind has in cc
 set_leaf_has given n No kind has set unset = let h = no_leaf given n kind has in cc
 set_leaf_has given n Unset kind has set unset = set refl
-
--- a leaf that is neither Yes nor No is Unset
-pub unset_leaf : (given : Given) (n : ℕ) → kind_of given n ≡ LeafKind → HasValue given n Unset → given.leaf n ≡ Unset
-unset_leaf given n kind none = go (given.leaf n) refl
-  where
-    go : (truth : Truth) → given.leaf n ≡ truth → given.leaf n ≡ Unset
-    go Yes e = absurd (none.0 (values_given.HasYes.leaf kind e))
-    go No e = absurd (none.1 (values_given.HasNo.leaf kind e))
-    go Unset e = e
 
 -- a node that has a value by what stands is a leaf
 pub set_is_leaf : (standing : List Done) (node : Node) (truth : Truth) → IsLeafTruth standing node truth →
@@ -113,34 +100,3 @@ module _ (standing : List Done) (nodes : List Node) (given : Given) (n : ℕ)
     sets = same_leaf;
     right = λ node has or. stays_right truth node has value set or;
   }
-
-  module _ (node : Node) (has : HasNode nodes n node) (none : HasValue given n Unset) where
-    -- the other node with the number is this one
-    one_node : (truth : Truth) (other : Node) → HasNode nodes n other → IsLeafTruth standing node truth →
-        IsLeafTruth standing other truth
-    one_node truth other at is =
-        subst (λ (m : Node). IsLeafTruth standing m truth) (same_Some node other (sym has ∙ at)) is
-
-    -- where no value stands for a node without one, it is left as it is
-    pub tells_none : IsLeafTruth standing node Unset → TellsLeaf standing nodes n given given
-    tells_none is = record {
-      truth = given.leaf n;
-      sets = same_leaf;
-      right = λ other at or. right other at or;
-    }
-      where
-        right : (other : Node) → HasNode nodes n other →
-            IsLeafTruth standing other (given.leaf n) ⊎ (given.leaf n ≡ Unset) →
-            IsLeafTruth standing other (given.leaf n)
-        right other at (inl so) = so
-        right other at (inr unset) =
-            subst (λ (truth : Truth). IsLeafTruth standing other truth) (sym unset) (one_node Unset other at is)
-
-    -- a value that stands is set
-    pub tells_truth : (truth : Truth) (new : Given) → IsLeafTruth standing node truth → SetsLeaf n truth given new →
-        TellsLeaf standing nodes n given new
-    tells_truth truth new is sets = record {
-      truth = truth;
-      sets = sets;
-      right = λ other at or. one_node truth other at is;
-    }

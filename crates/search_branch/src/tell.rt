@@ -5,7 +5,8 @@ ghost use Rattle.search_watch.specs.Service.{ServesNow};
 ghost use Rattle.search_branch.specs.Given.{kind_in};
 ghost use Rattle.formula_truth.specs.declared.truth.Truth.TheVariants.{Unset};
 ghost use Rattle.search_branch.specs.Built.{AreFresh};
-ghost use Rattle.search_branch.specs.Told.{KeepsNodes, KeepsLeaves, TellsLeaf, AreToldBut, AreTold, AreAsserted, TellsAll};
+ghost use Rattle.search_branch.specs.Told.{KeepsNodes, KeepsLeaves, TellsLeaf, AreToldBut, AreTold, AreAsserted};
+ghost use Rattle.search_branch.specs.Told.{TellsAll};
 
 use crate::leaf::leaf_truth;
 use formula_assert::AssertionStack;
