@@ -9,5 +9,6 @@ pub mod TellLemmas
 pub mod StartLemmas
 pub mod BuildLemmas
 pub mod FollowLemmas
+pub mod ComeLemmas
 pub mod ToldLemmas
 pub mod BranchLemmas

@@ -107,6 +107,7 @@ impl BranchValues {
         requires within { asserted ≤ length stack.now.asserted }
         requires come { (was : Assertions) × (struck : List (ℕ × ℕ)) × HasCome was stack.now unions.now asserted differs × AreValuesOf was struck self.old }
         ensures values { OnOk result ((was : Assertions) (struck : List (ℕ × ℕ)) → HasCome was stack.now unions.now asserted differs → AreValuesOf was struck self.old → AreValuesOf stack.now struck self.new) }
+        ensures parts { OnOk result (self.new.values.wires.parts ≡ self.old.values.wires.parts) }
         ensures level { OnOk result ((before : ValuesOf) → IsLevelOver before self.old → IsLevelOver before self.new) }
     {
         let _rules = stack.depth();
