@@ -12,9 +12,9 @@ returns c =
     let now = c.args.stack.now in
     let fresh = given_of c.in_ok-values.values in
     let lost = subst (λ (graph : GraphState). IsTrue c.is_lost-lost.result ↔ HasClash graph.standing) c.graph.ensures
-        c.is_lost-lost.ensures in
+    c.is_lost-lost.ensures in
     let are_fresh = subst (λ (formulas : Formulas). AreFresh formulas.nodes fresh) c.formulas.ensures
-        c.in_ok-values.ensures.fresh in
+    c.in_ok-values.ensures.fresh in
     right_start now fresh
     (record {
       values = c.tell_start.new.values;
