@@ -1,8 +1,9 @@
 -- What came is followed by the values of a branch.
-use Rattle.std.proofs.Common.{◌≡◌, ◌↔◌, inl, inr, ℕ, ◌<◌, ◌≤◌, Bool, true, false, IsTrue, List, [], ◌∷◌, ◌++◌, length, map, take, slice_index_or, slice_get, Some, All, Contains, refl, sym, ap, ap₂, subst, ◌∙◌, arith}
+use Rattle.std.proofs.Common.{◌≡◌, ◌↔◌, inl, inr, ℕ, ◌<◌, Bool, true, false, IsTrue, List, [], ◌∷◌, ◌++◌, length, map, take, slice_index_or, slice_get, Some, Result, Ok, Err, All, Contains, refl, sym, ap, ap₂, subst, ◌∙◌, arith}
+use Rattle.std.specs.Prelude.{OnOk}
 use Rattle.std.proofs.lemmas.Bool.{cases_eq}
 use Rattle.std.proofs.lemmas.Option.{slice_get_within, get_or_from_slice_get}
-use Rattle.std.proofs.lemmas.List.{length-append, length-map, take-append-le, take_all}
+use Rattle.std.proofs.lemmas.List.{length-map, take-append-le, take_all}
 use Rattle.std.proofs.lemmas.List.Elements.{Contains-append_left, Contains-push, Contains-push_cases}
 use Rattle.graph_meaning.specs.declared.done.Done.{Done}
 use Rattle.graph_meaning.specs.declared.union.Union.{Union}
@@ -165,15 +166,6 @@ module _ {X : Type 0} where
       ∙ take_all (length xs) xs (omega arith)
 
 module _ (was now : Assertions) (over : HoldsMoreOver was now) where
-  -- as many nodes are asserted, or more
-  pub asserted_within : (count : ℕ) → count ≡ length was.asserted → count ≤ length now.asserted
-  asserted_within count e = omega (
-    arith,
-    e,
-    ap length over.holds_more.asserted_are,
-    length-append was.asserted over.holds_more.more,
-  )
-
   -- what was put last came
   pub has_come : (start unions : List Union) (asserted differs : ℕ) → start ≡ [] →
       ListsMore was.graph.standing now.graph.standing start unions →
@@ -191,6 +183,11 @@ module _ (was now : Assertions) (over : HoldsMoreOver was now) where
     asserted_are = front_of was.asserted over.holds_more.more now.asserted asserted over.holds_more.asserted_are
         so_many;
   }
+
+-- what follows of an answer is known where the answer is given
+pub where_ok : {U E P Q : Type 0} (result : Result U E) → (P → Q) → OnOk result P → OnOk result Q
+where_ok (Ok value) gives is = gives is
+where_ok (Err fault) gives is = is
 
 -- ---- a place is struck
 
