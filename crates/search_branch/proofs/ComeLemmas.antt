@@ -138,7 +138,7 @@ module _ (was now : Assertions) (unions : List Union) (asserted differs : ℕ)
             (subst (λ (count : ℕ). n < count) (sym (ap length kinds_now ∙ length-map now.formulas.nodes kind_in)) within);
         struck_are = λ n place within.
             let before = current.given.struck_are n place
-                (subst (λ (nodes : List Node). n < length nodes) same_nodes within) in
+            (subst (λ (nodes : List Node). n < length nodes) same_nodes within) in
             (λ on. before.0 (sym (tells.struck n place) ∙ on), λ on. tells.struck n place ∙ before.1 on);
       }
 
@@ -244,9 +244,9 @@ module _ (now : Assertions) (struck : List (ℕ × ℕ)) (old new : BranchValues
       ((given_of new.values).struck n i ≡ true) ↔ Contains (struck ++ (node, place) ∷ []) (n, i)
   is_struck n i was = elim (cases_eq n node) [
     | inl e ↦ elim (cases_eq i place) [
-        | inl e' ↦ here_struck n i e e'
-        | inr other ↦ other_struck n i (λ _ same. other same) was
-      ]
+      | inl e' ↦ here_struck n i e e'
+      | inr other ↦ other_struck n i (λ _ same. other same) was
+    ]
     | inr other ↦ other_struck n i (λ same _. other same) was
   ]
 
