@@ -1,8 +1,9 @@
 -- What came is followed by the values of a branch.
-use Rattle.std.proofs.Common.{◌≡◌, ◌↔◌, inl, inr, ℕ, ◌<◌, ◌≤◌, Bool, true, false, IsTrue, List, [], ◌∷◌, ◌++◌, length, map, take, slice_index_or, slice_get, Some, All, Contains, refl, sym, ap, ap₂, subst, ◌∙◌, arith}
+use Rattle.std.proofs.Common.{◌≡◌, ◌↔◌, inl, inr, ℕ, ◌<◌, Bool, true, false, IsTrue, List, [], ◌∷◌, ◌++◌, length, map, take, slice_index_or, slice_get, Some, Result, Ok, Err, All, Contains, refl, sym, ap, ap₂, subst, ◌∙◌, arith}
+use Rattle.std.specs.Prelude.{OnOk}
 use Rattle.std.proofs.lemmas.Bool.{cases_eq}
 use Rattle.std.proofs.lemmas.Option.{slice_get_within, get_or_from_slice_get}
-use Rattle.std.proofs.lemmas.List.{length-append, length-map, take-append-le, take_all}
+use Rattle.std.proofs.lemmas.List.{length-map, take-append-le, take_all}
 use Rattle.std.proofs.lemmas.List.Elements.{Contains-append_left, Contains-push, Contains-push_cases}
 use Rattle.graph_meaning.specs.declared.done.Done.{Done}
 use Rattle.graph_meaning.specs.declared.union.Union.{Union}
@@ -137,7 +138,7 @@ module _ (was now : Assertions) (unions : List Union) (asserted differs : ℕ)
             (subst (λ (count : ℕ). n < count) (sym (ap length kinds_now ∙ length-map now.formulas.nodes kind_in)) within);
         struck_are = λ n place within.
             let before = current.given.struck_are n place
-                (subst (λ (nodes : List Node). n < length nodes) same_nodes within) in
+            (subst (λ (nodes : List Node). n < length nodes) same_nodes within) in
             (λ on. before.0 (sym (tells.struck n place) ∙ on), λ on. tells.struck n place ∙ before.1 on);
       }
 
@@ -165,15 +166,6 @@ module _ {X : Type 0} where
       ∙ take_all (length xs) xs (omega arith)
 
 module _ (was now : Assertions) (over : HoldsMoreOver was now) where
-  -- as many nodes are asserted, or more
-  pub asserted_within : (count : ℕ) → count ≡ length was.asserted → count ≤ length now.asserted
-  asserted_within count e = omega (
-    arith,
-    e,
-    ap length over.holds_more.asserted_are,
-    length-append was.asserted over.holds_more.more,
-  )
-
   -- what was put last came
   pub has_come : (start unions : List Union) (asserted differs : ℕ) → start ≡ [] →
       ListsMore was.graph.standing now.graph.standing start unions →
@@ -191,6 +183,11 @@ module _ (was now : Assertions) (over : HoldsMoreOver was now) where
     asserted_are = front_of was.asserted over.holds_more.more now.asserted asserted over.holds_more.asserted_are
         so_many;
   }
+
+-- what follows of an answer is known where the answer is given
+pub where_ok : {U E P Q : Type 0} (result : Result U E) → (P → Q) → OnOk result P → OnOk result Q
+where_ok (Ok value) gives is = gives is
+where_ok (Err fault) gives is = is
 
 -- ---- a place is struck
 
@@ -247,9 +244,9 @@ module _ (now : Assertions) (struck : List (ℕ × ℕ)) (old new : BranchValues
       ((given_of new.values).struck n i ≡ true) ↔ Contains (struck ++ (node, place) ∷ []) (n, i)
   is_struck n i was = elim (cases_eq n node) [
     | inl e ↦ elim (cases_eq i place) [
-        | inl e' ↦ here_struck n i e e'
-        | inr other ↦ other_struck n i (λ _ same. other same) was
-      ]
+      | inl e' ↦ here_struck n i e e'
+      | inr other ↦ other_struck n i (λ _ same. other same) was
+    ]
     | inr other ↦ other_struck n i (λ same _. other same) was
   ]
 

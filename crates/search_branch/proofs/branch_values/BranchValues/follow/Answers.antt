@@ -32,8 +32,8 @@ pub tell_all-requires-clause-serves : goal.tell_all-requires-clause-serves
 tell_all-requires-clause-serves c =
     let same = ap (λ (graph : GraphState). graph.standing) c.graph-graph.ensures in
     let late = behind c.requires.come.0 c.args.stack.now c.args.unions.now c.args.asserted c.args.differs
-        c.requires.come.2 c.requires.come.1 c.args.self.now c.requires.calm c.requires.come.3
-        c.graph-graph.result.now.standing same in
+    c.requires.come.2 c.requires.come.1 c.args.self.now c.requires.calm c.requires.come.3
+    c.graph-graph.result.now.standing same in
     serves_still c.requires.come.0 c.args.stack.now c.args.unions.now c.args.asserted c.args.differs
     c.requires.come.2 c.requires.come.1 c.args.self.now c.requires.calm c.requires.come.3
     c.graph-graph.result.now.standing same c.follow.new.self
@@ -43,8 +43,8 @@ pub tell_all-requires-clause-stand : goal.tell_all-requires-clause-stand
 tell_all-requires-clause-stand c =
     let same = ap (λ (graph : GraphState). graph.standing) c.graph-graph.ensures in
     let late = behind c.requires.come.0 c.args.stack.now c.args.unions.now c.args.asserted c.args.differs
-        c.requires.come.2 c.requires.come.1 c.args.self.now c.requires.calm c.requires.come.3
-        c.graph-graph.result.now.standing same in
+    c.requires.come.2 c.requires.come.1 c.args.self.now c.requires.calm c.requires.come.3
+    c.graph-graph.result.now.standing same in
     subst (λ (found : List ℕ). All (λ (n : ℕ). n < length c.args.stack.now.formulas.nodes) found)
     (sym c.deref.ensures.value)
     (found_stands c.requires.come.0 c.args.stack.now c.args.unions.now c.args.asserted c.args.differs
@@ -56,10 +56,10 @@ pub tell_all-requires-clause-told : goal.tell_all-requires-clause-told
 tell_all-requires-clause-told c =
     let same = ap (λ (graph : GraphState). graph.standing) c.graph-graph.ensures in
     let late = behind c.requires.come.0 c.args.stack.now c.args.unions.now c.args.asserted c.args.differs
-        c.requires.come.2 c.requires.come.1 c.args.self.now c.requires.calm c.requires.come.3
-        c.graph-graph.result.now.standing same in
+    c.requires.come.2 c.requires.come.1 c.args.self.now c.requires.calm c.requires.come.3
+    c.graph-graph.result.now.standing same in
     subst (λ (found : List ℕ). AreToldBut (Contains found) c.args.stack.now.graph.standing
-        c.args.stack.now.formulas.nodes (given_of c.args.self.now.values))
+    c.args.stack.now.formulas.nodes (given_of c.args.self.now.values))
     (sym c.deref.ensures.value)
     (told_but c.requires.come.0 c.args.stack.now c.args.unions.now c.args.asserted c.args.differs
     c.requires.come.2 c.requires.come.1 c.args.self.now c.requires.calm c.requires.come.3
@@ -70,7 +70,7 @@ pub returns-clause-values : goal.returns-clause-values
 returns-clause-values c was struck come right =
     let same = ap (λ (graph : GraphState). graph.standing) c.graph-graph.ensures in
     let late = behind was c.args.stack.now c.args.unions.now c.args.asserted c.args.differs come struck
-        c.args.self.now c.requires.calm right c.graph-graph.result.now.standing same in
+    c.args.self.now c.requires.calm right c.graph-graph.result.now.standing same in
     right_now was c.args.stack.now c.args.unions.now c.args.asserted c.args.differs come struck c.args.self.now
     c.requires.calm right c.graph-graph.result.now.standing same
     (record { values = c.tell_all.new.values; watch = c.follow.new.self; marks = c.args.self.now.marks; lost = c.in_ok-clash.clash })
