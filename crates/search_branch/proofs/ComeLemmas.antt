@@ -1,5 +1,7 @@
 -- What came is followed by the values of a branch.
-use Rattle.std.proofs.Common.{◌≡◌, ◌↔◌, inl, inr, ℕ, ◌<◌, Bool, true, false, IsTrue, List, [], ◌∷◌, ◌++◌, length, map, take, slice_index_or, slice_get, Some, Result, Ok, Err, All, Contains, refl, sym, ap, ap₂, subst, ◌∙◌, arith}
+use Rattle.std.proofs.Common.{◌≡◌, ◌↔◌, inl, inr, ℕ, ◌<◌, true, false, IsTrue, List, [], ◌∷◌, ◌++◌, length, map, take}
+use Rattle.std.proofs.Common.{slice_index_or, slice_get, Some, Result, Ok, Err, All, Contains, sym, ap, ap₂, subst}
+use Rattle.std.proofs.Common.{◌∙◌, arith}
 use Rattle.std.specs.Prelude.{OnOk}
 use Rattle.std.proofs.lemmas.Bool.{cases_eq}
 use Rattle.std.proofs.lemmas.Option.{slice_get_within, get_or_from_slice_get}
@@ -129,13 +131,16 @@ module _ (was now : Assertions) (unions : List Union) (asserted differs : ℕ)
       kinds_now : (given_of new.values).kinds ≡ map kind_in now.formulas.nodes
       kinds_now = tells.kinds ∙ current.given.kinds ∙ ap (map kind_in) (sym same_nodes)
 
+      many_now : length (given_of new.values).kinds ≡ length now.formulas.nodes
+      many_now = ap length kinds_now ∙ length-map now.formulas.nodes kind_in
+
       given_now : IsGivenBy now.formulas (held_of now) struck (given_of new.values)
       given_now = record {
         kinds = kinds_now;
         parts = tells.parts ∙ current.given.parts ∙ ap (map parts_in) (sym same_nodes);
         leaf = tells.told;
         asserted = λ n within. tells.asserted n
-            (subst (λ (count : ℕ). n < count) (sym (ap length kinds_now ∙ length-map now.formulas.nodes kind_in)) within);
+            (subst (λ (count : ℕ). n < count) (sym many_now) within);
         struck_are = λ n place within.
             let before = current.given.struck_are n place
             (subst (λ (nodes : List Node). n < length nodes) same_nodes within) in
@@ -197,7 +202,8 @@ pub part_stands_at : (formulas : Formulas) → IsFormulaTable formulas → (node
 part_stands_at formulas table node place part parts has at =
     let earlier : All (λ (part : ℕ). part < node) parts = table.earlier node (Or parts) has in
     let less = earlier place 0 (slice_get_within parts place part at) in
-    omega (arith, less, get_or_from_slice_get parts place part 0 at, slice_get_within formulas.nodes node (Or parts) has)
+    let within = slice_get_within formulas.nodes node (Or parts) has in
+    omega (arith, less, get_or_from_slice_get parts place part 0 at, within)
 
 -- the values know this place, also once they followed
 pub has_place_at : (was : Assertions) (struck : List (ℕ × ℕ)) (old new : BranchValues) → old.lost ≡ false →

@@ -11,13 +11,23 @@ returns-then-clash-clause-values c was struck come right =
     right_lost was c.args.stack.now c.args.unions.now c.args.asserted c.args.differs come struck c.args.self.now
     c.requires.calm right c.graph-graph.result.now.standing
     (ap (λ (graph : GraphState). graph.standing) c.graph-graph.ensures)
-    (record { values = c.args.self.now.values; watch = c.follow.new.self; marks = c.args.self.now.marks; lost = c.in_ok-clash.clash })
+    (record {
+      values = c.args.self.now.values;
+      watch = c.follow.new.self;
+      marks = c.args.self.now.marks;
+      lost = c.in_ok-clash.clash;
+    })
     c.in_ok-clash.ensures.clash c.if-clash.true
 
 pub returns-then-clash-clause-level : goal.returns-then-clash-clause-level
 returns-then-clash-clause-level c before over =
     level_stays before c.args.self.now
-    (record { values = c.args.self.now.values; watch = c.follow.new.self; marks = c.args.self.now.marks; lost = c.in_ok-clash.clash })
+    (record {
+      values = c.args.self.now.values;
+      watch = c.follow.new.self;
+      marks = c.args.self.now.marks;
+      lost = c.in_ok-clash.clash;
+    })
     over refl refl refl
     (c.can_go_back_further.ensures.further before.watch c.args.self.now.watch c.follow.new.self over.back
     c.in_ok-clash.ensures.back)
@@ -73,14 +83,24 @@ returns-clause-values c was struck come right =
     c.args.self.now c.requires.calm right c.graph-graph.result.now.standing same in
     right_now was c.args.stack.now c.args.unions.now c.args.asserted c.args.differs come struck c.args.self.now
     c.requires.calm right c.graph-graph.result.now.standing same
-    (record { values = c.tell_all.new.values; watch = c.follow.new.self; marks = c.args.self.now.marks; lost = c.in_ok-clash.clash })
+    (record {
+      values = c.tell_all.new.values;
+      watch = c.follow.new.self;
+      marks = c.args.self.now.marks;
+      lost = c.in_ok-clash.clash;
+    })
     c.in_ok-clash.ensures.clash (c.in_ok-clash.ensures.serves c.if-clash.false (served was) late)
     c.in_ok-tell_all.ensures.tells
 
 pub returns-clause-level : goal.returns-clause-level
 returns-clause-level c before over =
     level_stays before c.args.self.now
-    (record { values = c.tell_all.new.values; watch = c.follow.new.self; marks = c.args.self.now.marks; lost = c.in_ok-clash.clash })
+    (record {
+      values = c.tell_all.new.values;
+      watch = c.follow.new.self;
+      marks = c.args.self.now.marks;
+      lost = c.in_ok-clash.clash;
+    })
     over c.in_ok-tell_all.ensures.tells.parts c.in_ok-tell_all.ensures.saved refl
     (c.can_go_back_further.ensures.further before.watch c.args.self.now.watch c.follow.new.self over.back
     c.in_ok-clash.ensures.back)
