@@ -1,6 +1,5 @@
 -- What was found is what is told.
-use Rattle.std.proofs.Common.{zero, suc, ◌≡◌, ◌⊎◌, inl, inr, ◌↔◌, ℕ, ◌+◌, ◌<◌, ◌≤◌, Bool, true, false, IsTrue, List, [], ◌∷◌, ◌++◌, length, map, take, Option, Some, None, slice_index_or, slice_get, All, Contains, refl, sym, ap, subst, ◌∙◌, arith}
-use Rattle.std.proofs.lemmas.Option.{slice_get_within, get_or_from_slice_get}
+use Rattle.std.proofs.Common.{◌≡◌, ◌⊎◌, inl, inr, ℕ, List, Contains, refl, arith}
 use Rattle.graph_meaning.specs.declared.done.Done.{Done}
 use Rattle.graph_meaning.specs.Same.{Same}
 use Rattle.graph_meaning.specs.Standing.{differs_of}
@@ -13,7 +12,7 @@ use Rattle.formula_value.specs.Holds.{HasNode}
 use Rattle.search_values.specs.Given.{Given}
 use Rattle.search_watch.specs.Literals.{IsEquationValue, IsAtomValue}
 use Rattle.search_watch.specs.Service.{FindsChanges, StaysOrFound}
-use Rattle.search_branch.specs.Given.{IsLeafTruth, ends_in, ends_of}
+use Rattle.search_branch.specs.Given.{IsLeafTruth, ends_of}
 use Rattle.search_branch.specs.Told.{AreToldBut, AreTold}
 use Rattle.search_branch.proofs.LiteralLemmas.{unset_turned}
 use Rattle.search_branch.proofs.BuildLemmas.{ends_on}

@@ -1,5 +1,5 @@
 -- Values of nodes that are told what came.
-use Rattle.std.specs.Prelude.{◌≡◌, ◌⊎◌, ◌↔◌, ℕ, ◌<◌, true, List, length, map, take, Contains}
+use Rattle.std.specs.Prelude.{◌≡◌, ◌⊎◌, ◌↔◌, ℕ, ◌<◌, true, List, length, take, Contains}
 use Rattle.graph_meaning.specs.declared.done.Done.{Done}
 use Rattle.graph_meaning.specs.declared.union.Union.{Union}
 use Rattle.graph_meaning.specs.Standing.{terms_of, differs_of}
@@ -11,7 +11,7 @@ use Rattle.formula_value.specs.Holds.{HasNode}
 use Rattle.formula_assert.specs.Assertions.{Assertions}
 use Rattle.search_values.specs.Given.{Given}
 use Rattle.search_values.specs.Changes.{SetsLeaf}
-use Rattle.search_branch.specs.Given.{IsLeafTruth, kind_in}
+use Rattle.search_branch.specs.Given.{IsLeafTruth}
 
 -- nothing changed but values of leaves
 pub record KeepsNodes (old new : Given) : Type 0 where
