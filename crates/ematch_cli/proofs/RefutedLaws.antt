@@ -1,4 +1,4 @@
--- A check is answered by `unsat` only where what is asserted is refuted.
+-- A check is answered by `unsat` only where what is asserted is refuted, and by `sat` only where it is satisfied.
 use Rattle.std.proofs.Common.{◌≡◌, ℕ, refl, sym, subst, codes}
 use Rattle.em_outside.specs.declared.limits.Limits.{Limits}
 use Rattle.smt_text.specs.Word.{Word}
@@ -8,9 +8,9 @@ use Rattle.formula_assert.specs.Assertions.{Assertions, held_of, no_assertions, 
 use Rattle.formula_assert.specs.AssertFormula.{AssertsFormula}
 use Rattle.formula_assert.specs.Exactly.{AreExact}
 use Rattle.formula_assert.specs.Tables.{AreTables}
-use Rattle.search_laws.specs.Laws.{UnsatRefutes}
+use Rattle.search_laws.specs.Laws.{UnsatRefutes, SatSatisfies}
 use Rattle.search_laws.specs.Verdict.{Ending, unsat, sat}
-use Rattle.search_laws.specs.Branch.{first_branch}
+use Rattle.search_laws.specs.Branch.{Branch, first_branch}
 use Rattle.search_laws.specs.Verdict.{Verdict}
 use Rattle.smt_commands.specs.declared.command.Command as syntax
 use Rattle.smt_commands.specs.declared.command.Command.TheVariants as command
@@ -23,6 +23,7 @@ use Rattle.ematch_cli.specs.Run.{Does, Replies}
 use Rattle.ematch_cli.specs.RunLaws.{RunLaws}
 use Rattle.ematch_cli.specs.RunState.{RunState}
 use Rattle.ematch_cli.specs.Refuted.{ComesAbout, at_first, by_command, IsRefutable, UnsatIsRight}
+use Rattle.ematch_cli.specs.Satisfied.{IsSatisfied, SatIsRight}
 use Rattle.ematch_cli.proofs.OneAnswer.{IsRight, right_opening, right_after, repeated_keeps}
 
 -- what is held stays exactly what is asserted
@@ -71,3 +72,28 @@ unsat_right law exact refutes limits now comes response =
     (exact_where Solve limits law exact comes).present
     (subst (Verdict now.assertions.formulas (first_branch (held_of now.assertions)))
     (unsat_line response.ending response.is) response.verdict)
+
+sat_line : (ending : Ending) → line (codes "sat") ≡ verdict_line ending → (last : Branch) × (ending ≡ sat last)
+sat_line unsat e = absurd (lines_differ e)
+  where
+    lines_differ : line (codes "sat") ≡ line (codes "unsat") → ⊥
+    lines_differ e = cc
+sat_line (sat last) e = (last, refl)
+
+pub sat_right : RunLaws → StaysExact → SatSatisfies → SatIsRight
+sat_right law exact satisfies limits now comes response =
+    let right = right_where Solve limits law exact comes in
+    let found = sat_line response.ending response.is in
+    let verdict : Verdict now.assertions.formulas (first_branch (held_of now.assertions)) (sat found.0) =
+    subst (Verdict now.assertions.formulas (first_branch (held_of now.assertions))) found.1 response.verdict in
+    record {
+      last = found.0;
+      verdict = verdict;
+      satisfies = λ predicates leaders are keeps. satisfies now.assertions.formulas (held_of now.assertions) found.0
+          leaders predicates (record {
+            terms = right.tables.terms;
+            table = right.tables.formulas.table;
+            stand = right.tables.formulas.terms;
+            exactly = (exact_where Solve limits law exact comes).present;
+          }) verdict are keeps;
+    }

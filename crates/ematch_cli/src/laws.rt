@@ -3,11 +3,12 @@ ghost use Rattle.std.specs.Prelude.{◌≡◌, ℕ, true, false, List};
 ghost use Rattle.em_outside.specs.declared.limits.Limits.{Limits};
 ghost use Rattle.ematch_cli.specs.Output.{Answer, BeginsWith, IsOutput, IsOutputSoFar, IsFrontOf};
 ghost use Rattle.ematch_cli.specs.Refuted.{UnsatIsRight};
+ghost use Rattle.ematch_cli.specs.Satisfied.{SatIsRight};
 ghost use Rattle.ematch_cli.specs.RunLaws.{RunLaws};
 ghost use Rattle.em_words.specs.declared.task.Task.{Task};
 
 use formula_assert::laws::{exactly_law, ground_law};
-use search_laws::laws::{one_verdict_law, unsat_law};
+use search_laws::laws::{one_verdict_law, sat_law, unsat_law};
 use smt_commands::laws::session_law;
 
 /// The laws of the crates below that a run stands on.
@@ -44,4 +45,14 @@ pub fn unsat_is_right()
     run_law();
     exactly_law();
     unsat_law();
+}
+
+/// Where a check is answered by `sat`, the search ends in a branch whose leaders make an assignment that satisfies all that is
+/// asserted, whichever symbols are the predicates, if the sorts are kept to.
+pub fn sat_is_right()
+    ensures { SatIsRight }
+{
+    run_law();
+    exactly_law();
+    sat_law();
 }
