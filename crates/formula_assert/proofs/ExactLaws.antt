@@ -102,7 +102,7 @@ exact_formula formula before after tables are asserts =
     after.formulas asserts.root asserts.enters.table_grows in
     let entered : HoldsExactly after.formulas (held asserts.entered before.asserted) =
     exact_terms after.formulas before.graph asserts.entered before.asserted added grew
-    (exact_table before.formulas after.formulas tables.formulas table (held before.graph before.asserted) are.present) in
+    (exact_table before.formulas after.formulas tables.formulas.table table (held before.graph before.asserted) are.present) in
     let last : before_last is_push after.graph.standing ≡ before_last is_push before.graph.standing =
     (asserts_terms after.formulas asserts.asserts).last
     ∙ last_same before.graph asserts.entered (grows_terms before.graph asserts.entered added grew) in
