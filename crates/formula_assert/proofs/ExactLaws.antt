@@ -28,6 +28,7 @@ exact_at_start terms nodes = record {
     nodes = λ n c. absurd (omega (arith, c.1));
     merges = λ s t c. absurd (omega (arith, c.1));
     differs = λ s t c. absurd (omega (arith, c.1));
+    lives = λ trigger c. absurd (omega (arith, c.1));
   };
   saved = tt;
 }
@@ -78,7 +79,7 @@ exact_restored now (level ∷ saved) are were = record { present = were.0; saved
 pub exact_popped : (now : Assertions) → AreExact now → AreExact (popped now)
 exact_popped now are = exact_restored now now.saved are are.saved
 
--- terms are neither equations nor disequations
+-- terms are neither equations nor disequations nor triggers
 no_links : (rows : List TermRow) → All IsNoLink (map adding rows)
 no_links rows = All-map IsNoLink adding rows (λ k d less. tt)
 
@@ -102,7 +103,7 @@ exact_formula formula before after tables are asserts =
     after.formulas asserts.root asserts.enters.table_grows in
     let entered : HoldsExactly after.formulas (held asserts.entered before.asserted) =
     exact_terms after.formulas before.graph asserts.entered before.asserted added grew
-    (exact_table before.formulas after.formulas tables.formulas table (held before.graph before.asserted) are.present) in
+    (exact_table before.formulas after.formulas tables.formulas.table table (held before.graph before.asserted) are.present) in
     let last : before_last is_push after.graph.standing ≡ before_last is_push before.graph.standing =
     (asserts_terms after.formulas asserts.asserts).last
     ∙ last_same before.graph asserts.entered (grows_terms before.graph asserts.entered added grew) in

@@ -222,15 +222,20 @@ module _ (formulas : Formulas) where
           | inl early ↦ of_kept before after (Differ s t) adds.keeps (exact.differs s t early)
           | inr is ↦ is
         ];
+        lives = λ trigger c. elim (adds.ops (Live trigger) c) [
+          | inl early ↦ of_kept before after (Live trigger) adds.keeps (exact.lives trigger early)
+          | inr is ↦ is
+        ];
       }
 
--- the operation is neither an equation nor a disequation
+-- the operation is neither an equation nor a disequation nor a trigger
 abbrev pub IsNoLink : Op → Type 0
 IsNoLink (Merge left right) = ⊥
 IsNoLink (Differ left right) = ⊥
+IsNoLink (Live trigger) = ⊥
 IsNoLink op = Unit {0}
 
--- and when more operations stand that are neither equations nor disequations
+-- and when more operations stand that are neither equations nor disequations nor triggers
 module _ (formulas : Formulas) (graph later : GraphState) (asserted : List ℕ) (extra : List Op)
     (ops_are : operations_in later.standing ≡ operations_in graph.standing ++ extra) (no_link : All IsNoLink extra)
     (exact : HoldsExactly formulas (held graph asserted)) where
@@ -241,7 +246,7 @@ module _ (formulas : Formulas) (graph later : GraphState) (asserted : List ℕ) 
         (Contains-append_left (operations_in graph.standing) extra op c);
   }
 
-  -- an equation or disequation stood before
+  -- an equation, a disequation or a trigger stood before
   link_stood : (op : Op) → (IsNoLink op → ⊥) → Contains (operations_in later.standing) op →
       Contains (operations_in graph.standing) op
   link_stood op link c =
@@ -259,6 +264,8 @@ module _ (formulas : Formulas) (graph later : GraphState) (asserted : List ℕ) 
         (exact.merges s t (link_stood (Merge s t) (λ no. no) c));
     differs = λ s t c. of_kept formulas (held graph asserted) (held later asserted) (Differ s t) grown_keeps
         (exact.differs s t (link_stood (Differ s t) (λ no. no) c));
+    lives = λ trigger c. of_kept formulas (held graph asserted) (held later asserted) (Live trigger) grown_keeps
+        (exact.lives trigger (link_stood (Live trigger) (λ no. no) c));
   }
 
 -- what stands in a list stands in a longer one
@@ -320,4 +327,5 @@ module _ (table grown : Formulas) (is_table : IsFormulaTable table) (grows : Gro
       nodes = λ n c. let is = exact.nodes n c in (is.0, node_kept n is.0 is.1, done_still n is.0 is.1 is.2);
       merges = λ s t c. of_still (Merge s t) (exact.merges s t c);
       differs = λ s t c. of_still (Differ s t) (exact.differs s t c);
+      lives = λ trigger c. of_still (Live trigger) (exact.lives trigger c);
     }

@@ -1,6 +1,6 @@
 -- Unions that came one after another, and operations that make none.
 use Rattle.std.proofs.Common.{◌≡◌, ◌⊎◌, inl, inr, ⊎_elim, ℕ, zero, suc, ◌+◌, ◌<◌, true, false, List, [], ◌∷◌, ◌++◌}
-use Rattle.std.proofs.Common.{length, take, map, slice_get, Some, Result, Ok, Err, All, Contains, refl, sym, ap}
+use Rattle.std.proofs.Common.{length, take, map, slice_get, Some, Result, Ok, Err, All, refl, sym, ap}
 use Rattle.std.proofs.Common.{subst, ◌∙◌, append-nil, append_assoc, arith}
 use Rattle.std.specs.Prelude.{OnOk}
 use Rattle.std.proofs.Math.Seq.{take-append-add}
@@ -14,7 +14,7 @@ use Rattle.graph_meaning.specs.declared.done.Done.{Done}
 use Rattle.graph_meaning.specs.declared.op.Op.{Op}
 use Rattle.graph_meaning.specs.declared.op.Op.TheVariants.{Add, Merge, Differ, Live, Push, Pop}
 use Rattle.graph_meaning.specs.declared.union.Union.{Union}
-use Rattle.graph_meaning.proofs.LawfulLaws.{then_op, terms_of-push, merges_of-push, differs_of-push}
+use Rattle.graph_meaning.proofs.LawfulLaws.{terms_of-push, merges_of-push, differs_of-push}
 use Rattle.graph_meaning.specs.Same.{Same, Derives, same_term, turned as turned_same, joined as joined_same}
 use Rattle.graph_meaning.specs.Standing.{terms_of, merges_of, differs_of, differs_added}
 use Rattle.graph_meaning.specs.State.{GraphState, replay, state_after}

@@ -19,7 +19,7 @@ use Rattle.formula_table.specs.declared.enter_fault.EnterFault.{EnterFault}
 use Rattle.formula_table.specs.declared.enter_fault.EnterFault.TheVariants.{TermsFull, NodesFull, Memory}
 use Rattle.formula_table.proofs.EntryLaws.{enters_once-into, full_terms_once, full_terms_not_entered}
 use Rattle.formula_table.proofs.EntryLaws.{full_terms_not_lacking, lacking_nodes_once, lacking_nodes_not_entered}
-use Rattle.formula_table.specs.Formulas.{Formulas, IsFormulaTable, no_formulas}
+use Rattle.formula_table.specs.Formulas.{Formulas, IsFormulaTable, NodesStand, no_formulas}
 use Rattle.formula_table.proofs.BecomesLaws.{over_none}
 use Rattle.formula_table.proofs.StandLaws.{stands_after}
 use Rattle.match_graph.specs.GraphTerms.{adding, with_terms}
@@ -30,7 +30,7 @@ use Rattle.formula_assert.specs.Asserts.{Asserts}
 use Rattle.formula_assert.specs.Assertions.{Saved, Assertions, held_of, no_assertions, pushed, popped, restored}
 use Rattle.formula_assert.specs.AssertFormula.{AssertsFormula, StopsAssert, KeepsFormulas}
 use Rattle.formula_assert.proofs.AssertsLaws.{asserts_once, asserts_terms}
-use Rattle.formula_assert.specs.Stands.{AreAssertions, AreSaved}
+use Rattle.formula_assert.specs.Stands.{IsTableOver, AreAssertions, AreSaved}
 
 -- no formulas are a table
 no_formulas_table : (limit : ℕ) → IsFormulaTable (no_formulas limit)
@@ -45,33 +45,39 @@ no_formulas_table limit = record {
 
 -- they are at the start
 pub tables_at_start : (terms nodes : ℕ) → AreTables (no_assertions terms nodes)
-tables_at_start terms nodes = record { terms = IsTable-first; formulas = no_formulas_table nodes; saved = tt }
+tables_at_start terms nodes = record {
+  terms = IsTable-first;
+  formulas = record { table = no_formulas_table nodes; terms = λ n node at. absurd (none-some node at) };
+  saved = tt;
+}
 
 -- what was a table when the levels were opened, where the later graph has the same before its last level
 were_alike : (standing later : List Done) (saved : List Saved) →
     before_last is_push later ≡ before_last is_push standing → WereTables standing saved → WereTables later saved
 were_alike standing later [] same were = tt
 were_alike standing later (level ∷ saved) same were = subst (λ (list : List Done). IsTable (terms_of list) ×
-    IsFormulaTable level.formulas × WereTables list saved) (sym same) were
+    IsTableOver (length (terms_of list)) level.formulas × WereTables list saved) (sym same) were
 
 -- a level that opens saves tables
 were_opened : (standing : List Done) (serial : ℕ) (level : Saved) (saved : List Saved) → IsTable (terms_of standing) →
-    IsFormulaTable level.formulas → WereTables standing saved →
+    IsTableOver (length (terms_of standing)) level.formulas → WereTables standing saved →
     WereTables (then_op standing serial Push) (level ∷ saved)
 were_opened standing serial level saved terms formulas were =
-    subst (λ (list : List Done). IsTable (terms_of list) × IsFormulaTable level.formulas ×
+    subst (λ (list : List Done). IsTable (terms_of list) × IsTableOver (length (terms_of list)) level.formulas ×
     WereTables list saved) (sym (before_last-hit is_push standing (record { serial = serial; op = Push }) refl))
     (terms, formulas, were)
 
 -- they are when a level is opened
 pub tables_pushed : (now : Assertions) → AreTables now → AreTables (pushed now)
-tables_pushed now are = record {
-  terms = subst IsTable (sym (terms_of-push now.graph.standing now.graph.done Push
-      ∙ append-nil (terms_of now.graph.standing))) are.terms;
-  formulas = are.formulas;
-  saved = were_opened now.graph.standing now.graph.done (record { formulas = now.formulas; asserted = now.asserted })
-      now.saved are.terms are.formulas are.saved;
-}
+tables_pushed now are =
+    let same : terms_of (then_op now.graph.standing now.graph.done Push) ≡ terms_of now.graph.standing =
+    terms_of-push now.graph.standing now.graph.done Push ∙ append-nil (terms_of now.graph.standing) in
+    record {
+      terms = subst IsTable (sym same) are.terms;
+      formulas = subst (λ (rows : List TermRow). IsTableOver (length rows) now.formulas) (sym same) are.formulas;
+      saved = were_opened now.graph.standing now.graph.done
+          (record { formulas = now.formulas; asserted = now.asserted }) now.saved are.terms are.formulas are.saved;
+    }
 
 tables_restored : (now : Assertions) (saved : List Saved) → AreTables now → WereTables now.graph.standing saved →
     AreTables (restored now saved)
@@ -110,7 +116,11 @@ tables_asserted formula before after is are asserts =
     ∙ ap (λ (graph : GraphState). before_last is_push graph.standing) grew ∙ last-with_terms before.graph added in
     record {
       terms = subst IsTable (sym terms) (all.rows_stand are.terms);
-      formulas = all.formulas_stand are.formulas;
+      formulas = record {
+        table = all.formulas_stand are.formulas.table;
+        terms = subst (λ (rows : List TermRow). NodesStand (length rows) after.formulas.nodes) (sym terms)
+            (all.terms_stand are.formulas.terms);
+      };
       saved = subst (WereTables after.graph.standing) (sym asserts.saved_is)
           (were_alike before.graph.standing after.graph.standing before.saved last are.saved);
     }
@@ -120,13 +130,13 @@ were_lawful : (standing : List Done) (saved : List Saved) → IsLawful standing 
 were_lawful standing [] lawful are = tt
 were_lawful standing (level ∷ saved) lawful are =
     let before : IsLawful (before_last is_push standing) = IsLawful-take _ standing lawful in
-    (before.whole.table, are.1.table, were_lawful (before_last is_push standing) saved before are.2)
+    (before.whole.table, are.1, were_lawful (before_last is_push standing) saved before are.2)
 
 -- they are in what a stack holds
 pub tables_stand : (now : Assertions) → AreAssertions now → AreTables now
 tables_stand now are = record {
   terms = are.lawful.whole.table;
-  formulas = are.formulas.table;
+  formulas = are.formulas;
   saved = were_lawful now.graph.standing now.saved are.lawful are.saved;
 }
 
@@ -145,7 +155,7 @@ pub asserts_formula_once : (formula : Formula) (before one other : Assertions) �
     AreTables before → AssertsFormula formula before one → AssertsFormula formula before other → one ≡ other
 asserts_formula_once formula before one other is are first second =
     let entry = enters_once-into (with_terms before.graph) first.entered second.entered formula [] (over_none formula is)
-    (terms_of before.graph.standing) (none_below before.graph) are.terms before.graph.limit before.formulas are.formulas one.formulas
+    (terms_of before.graph.standing) (none_below before.graph) are.terms before.graph.limit before.formulas are.formulas.table one.formulas
     other.formulas first.root second.root first.enters second.enters in
     let moved : Asserts one.formulas first.root (held first.entered before.asserted) (held_of other) =
     subst (λ (table : Formulas). Asserts table first.root (held first.entered before.asserted) (held_of other))
@@ -162,7 +172,7 @@ full_terms_not_asserted formula before one other is are asserts stops =
     full_terms_not_entered (λ more. other.graph ≡ with_terms before.graph more) (λ more. asserts.entered
     ≡ with_terms before.graph more) formula [] (over_none formula is) (terms_of before.graph.standing)
     (none_below before.graph) are.terms before.graph.limit
-    before.formulas are.formulas one.formulas asserts.root stops.0 asserts.enters
+    before.formulas are.formulas.table one.formulas asserts.root stops.0 asserts.enters
 
 -- and for its nodes
 pub lacking_nodes_not_asserted : (formula : Formula) (before one other : Assertions) → IsFormula formula →
@@ -171,7 +181,7 @@ lacking_nodes_not_asserted formula before one other is are asserts stops =
     lacking_nodes_not_entered (λ more. other.graph ≡ with_terms before.graph more) (λ more. asserts.entered
     ≡ with_terms before.graph more) formula [] (over_none formula is) (terms_of before.graph.standing)
     (none_below before.graph) are.terms before.graph.limit
-    before.formulas are.formulas one.formulas asserts.root stops.0 asserts.enters
+    before.formulas are.formulas.table one.formulas asserts.root stops.0 asserts.enters
 
 -- where there is no room for its terms, it does not come to its nodes
 pub full_terms_not_lacking_nodes : (formula : Formula) (before one other : Assertions) → IsFormula formula →
@@ -180,7 +190,7 @@ full_terms_not_lacking_nodes formula before one other is are first second =
     full_terms_not_lacking (λ more. one.graph ≡ with_terms before.graph more) (λ more. other.graph
     ≡ with_terms before.graph more) formula [] (over_none formula is) (terms_of before.graph.standing)
     (none_below before.graph) are.terms before.graph.limit
-    before.formulas are.formulas first.0 second.0
+    before.formulas are.formulas.table first.0 second.0
 
 -- a formula that is asserted is not refused, but for want of memory
 pub asserted_not_stopped : (formula : Formula) (before one other : Assertions) (fault : EnterFault) →
@@ -206,13 +216,13 @@ stopped_once formula before one other TermsFull TermsFull is are not so first se
     let both = full_terms_once (λ more. one.graph ≡ with_terms before.graph more) (λ more. other.graph
     ≡ with_terms before.graph more) formula [] (over_none formula is) (terms_of before.graph.standing)
     (none_below before.graph) are.terms before.graph.limit
-    before.formulas are.formulas first.0 second.0 in
+    before.formulas are.formulas.table first.0 second.0 in
     (refl, kept_alike before one other (both.grew ∙ sym both.also) first.1 second.1)
 stopped_once formula before one other NodesFull NodesFull is are not so first second =
     let both = lacking_nodes_once (λ more. one.graph ≡ with_terms before.graph more) (λ more. other.graph
     ≡ with_terms before.graph more) formula [] (over_none formula is) (terms_of before.graph.standing)
     (none_below before.graph) are.terms before.graph.limit
-    before.formulas are.formulas first.0 second.0 in
+    before.formulas are.formulas.table first.0 second.0 in
     (refl, kept_alike before one other (both.grew ∙ sym both.also) first.1 second.1)
 stopped_once formula before one other TermsFull NodesFull is are not so first second = absurd
     (full_terms_not_lacking_nodes formula before one other is are first second)

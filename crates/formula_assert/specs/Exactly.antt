@@ -1,7 +1,8 @@
 -- What is held is exactly what the asserted nodes stand for.
 use Rattle.std.specs.Prelude.{◌≡◌, ℕ, List, [], ◌∷◌, map, slice_get, Some, Contains}
+use Rattle.graph_trigger.specs.declared.trigger.Trigger.{Trigger}
 use Rattle.graph_meaning.specs.declared.op.Op.{Op}
-use Rattle.graph_meaning.specs.declared.op.Op.TheVariants.{Merge, Differ, Pop}
+use Rattle.graph_meaning.specs.declared.op.Op.TheVariants.{Merge, Differ, Live, Pop}
 use Rattle.graph_meaning.specs.declared.done.Done.{Done}
 use Rattle.graph_meaning.specs.State.{GraphState, state_after}
 use Rattle.formula_table.specs.declared.node.Node.{Node}
@@ -27,8 +28,8 @@ pub record IsOfAsserted (formulas : Formulas) (now : Held) (op : Op) : Type 0 wh
   pub has : slice_get formulas.nodes n ≡ Some node
   pub of_node : Contains (operations_of formulas node) op
 
--- each asserted node stands in the table, and what it stands for is done; and each equation and each disequation that
--- stands comes from an asserted node
+-- each asserted node stands in the table, and what it stands for is done; and each equation, each disequation and each
+-- live trigger that stands comes from an asserted node
 pub record HoldsExactly (formulas : Formulas) (now : Held) : Type 0 where
   pub nodes : (n : ℕ) → Contains now.asserted n →
       (node : Node) × (slice_get formulas.nodes n ≡ Some node) × IsDone formulas now node
@@ -36,6 +37,8 @@ pub record HoldsExactly (formulas : Formulas) (now : Held) : Type 0 where
       IsOfAsserted formulas now (Merge s t)
   pub differs : (s t : ℕ) → Contains (operations_in now.graph.standing) (Differ s t) →
       IsOfAsserted formulas now (Differ s t)
+  pub lives : (trigger : Trigger) → Contains (operations_in now.graph.standing) (Live trigger) →
+      IsOfAsserted formulas now (Live trigger)
 
 -- what would stand if the levels ended, from the innermost to the outermost, was exact
 abbrev pub WereExact : GraphState → List Saved → Type 0
