@@ -9,6 +9,7 @@ mod enter_rows;
 pub mod formula_table;
 pub mod node;
 mod reached;
+mod row_list;
 pub mod table_forall;
 
 pub use body::Body;
