@@ -1,6 +1,9 @@
 pub mod Branch
 pub mod Closing
+pub mod Path
+pub mod Rounds
 pub mod Verdict
 pub mod Assignment
+pub mod Pairs
 pub mod Kept
 pub mod Laws

@@ -1,0 +1,3 @@
+pub mod DoneInstances
+pub mod Instance
+pub mod New
