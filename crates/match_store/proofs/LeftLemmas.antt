@@ -14,16 +14,16 @@ module _ (done : List (List ℕ)) where
   pub left_none : AreLeft done [] []
   left_none = record { in_order = λ i j d less within. absurd (omega (arith, within)); exact = λ key. (nothing_in key, λ both. nothing_in key both.0) }
 
-  module _ (candidates : List (List ℕ)) (up : InOrder candidates) (i : ℕ) (within : i < length candidates) (key : List ℕ) (is : key ≡ get_or candidates i []) (keys : List (List ℕ)) (left : AreLeft done (take i candidates) keys) where
+  module _ (candidates : List (List ℕ)) (up : InOrder candidates) (i : ℕ) (within : i < length candidates) (key d : List ℕ) (is : key ≡ get_or candidates i d) (keys : List (List ℕ)) (left : AreLeft done (take i candidates) keys) where
     next : take (i + 1) candidates ≡ take i candidates ++ key ∷ []
-    next = subst (λ (k : List ℕ). take (i + 1) candidates ≡ take i candidates ++ k ∷ []) (sym is) (take_at_read candidates i [] within).1
+    next = subst (λ (k : List ℕ). take (i + 1) candidates ≡ take i candidates ++ k ∷ []) (sym is) (take_at_read candidates i d within).1
 
     -- a candidate that is not done comes last
     pub left_more : (Contains done key → ⊥) → AreLeft done (take (i + 1) candidates) (keys ++ key ∷ [])
     left_more not_done = subst (λ (cs : List (List ℕ)). AreLeft done cs (keys ++ key ∷ [])) (sym next) (record {
       in_order = all_pairs_push (λ a b. slice_cmp nat_cmp a b ≡ Less) keys key left.in_order
-          (λ k d less. subst (λ (b : List ℕ). slice_cmp nat_cmp (get_or keys k d) b ≡ Less) (sym is)
-          (earlier_before (λ a b. slice_cmp nat_cmp a b ≡ Less) candidates i [] (get_or keys k d) up within ((left.exact (get_or keys k d)).0 (Contains-get_or keys k d less)).0));
+          (λ k e less. subst (λ (b : List ℕ). slice_cmp nat_cmp (get_or keys k e) b ≡ Less) (sym is)
+          (earlier_before (λ a b. slice_cmp nat_cmp a b ≡ Less) candidates i d (get_or keys k e) up within ((left.exact (get_or keys k e)).0 (Contains-get_or keys k e less)).0));
       exact = λ other. (
         λ c. ⊎_elim
             (λ old. let both = (left.exact other).0 old in (Contains-append_left (take i candidates) (key ∷ []) other both.0, both.1))

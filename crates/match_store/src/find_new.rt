@@ -35,7 +35,8 @@ fn left_over(alloc: Global, candidates: &[Numbers], done: &KeySet) -> Result<Vec
     let mut instances = Vec::new(alloc);
     for key in candidates {
         if !done.has(key.as_slice()) {
-            instances.push(keyed(alloc, key.as_slice())?)?;
+            let instance = keyed(alloc, key.as_slice())?;
+            instances.push(instance)?;
         }
     }
     Ok(instances)
@@ -54,5 +55,6 @@ pub fn new_instances(
 {
     let found = candidates(alloc, graph)?;
     let keys = done_keys(alloc, graph, done)?;
-    left_over(alloc, found.as_slice(), &keys)
+    let instances = left_over(alloc, found.as_slice(), &keys)?;
+    Ok(instances)
 }
