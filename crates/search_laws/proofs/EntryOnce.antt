@@ -95,7 +95,7 @@ body_over formulas table forall n quantified is has =
     subst (λ k. IsFormulaOver k quantified.body) (ap (λ (item : TableForall). item.variables) found ∙ has.2)
     (table.foralls forall quantified is).body_over
 
-path_of : Held → Formulas → List (ℕ × ℕ) → List Instance → List ℕ → Path
+abbrev path_of : Held → Formulas → List (ℕ × ℕ) → List Instance → List ℕ → Path
 path_of now formulas struck done spent = record {
   formulas = formulas;
   branch = record { held = now; struck = struck };
@@ -187,7 +187,7 @@ module _ (instance : Instance) (before : Path) (sound : IsSoundPath before) (ove
       first.stops.stops stops).0
 
   module _ (after : Path) (one : EntersOne instance before after) where
-    added : List TermRow
+    abbrev added : List TermRow
     added = one.enters.enters.rows_grow.added
 
     rows_are : terms_of one.entered.standing ≡ terms_of (graph_in before).standing ++ added
@@ -261,20 +261,28 @@ stops_of instances path fault over = subst (λ (list : List Instance). Stops lis
 abbrev pub AreOverPath : Path → List Instance → Type 0
 AreOverPath path instances = (instance : Instance) → Contains instances instance → IsOverPath path instance
 
+module _ (instance : Instance) (instances : List Instance) (before : Path) (sound : IsSoundPath before)
+    (over : AreOverPath before (instance ∷ instances)) where
+  first_over : IsOverPath before instance
+  first_over = over instance (contains_head instance instances)
+
+  rest_over : (between : Path) → EntersOne instance before between → AreOverPath between instances
+  rest_over between one next c = entry_over instance before sound first_over between one next
+      (over next (contains_later instance next instances c))
+
+  same_between : AssertsOnce → (between other : Path) → EntersOne instance before between →
+      EntersOne instance before other → other ≡ between
+  same_between once between other one two = entry_once instance before sound first_over once other between two one
+
+-- what is sound stays so where instances are entered
+pub all_sound : {instances : List Instance} {before after : Path} → IsSoundPath before →
+    AreOverPath before instances → EntersAll instances before after → IsSoundPath after
+all_sound sound over entering.none = sound
+all_sound sound over (entering.more {instance} {instances} {before} {between} first rest) =
+    all_sound (entry_sound instance before sound (first_over instance instances before sound over) between first)
+    (rest_over instance instances before sound over between first) rest
+
 module _ (once : AssertsOnce) where
-  module _ (instance : Instance) (instances : List Instance) (before : Path) (sound : IsSoundPath before)
-      (over : AreOverPath before (instance ∷ instances)) where
-    first_over : IsOverPath before instance
-    first_over = over instance (contains_head instance instances)
-
-    rest_over : (between : Path) → EntersOne instance before between → AreOverPath between instances
-    rest_over between one next c = entry_over instance before sound first_over between one next
-        (over next (contains_later instance next instances c))
-
-    same_between : (between other : Path) → EntersOne instance before between → EntersOne instance before other →
-        other ≡ between
-    same_between between other one two = entry_once instance before sound first_over once other between two one
-
   -- instances are entered in one way
   pub all_once : {instances : List Instance} {before one other : Path} → IsSoundPath before →
       AreOverPath before instances → EntersAll instances before one → EntersAll instances before other → one ≡ other
@@ -285,13 +293,14 @@ module _ (once : AssertsOnce) where
       all_once (entry_sound instance before sound first_is between first)
       (rest_over instance instances before sound over between first) rest
       (subst (λ (path : Path). EntersAll instances path other)
-      (same_between instance instances before sound over between between' first first') rest')
+      (same_between instance instances before sound over once between between' first first') rest')
 
   -- and then none is past a limit
   pub all_not_stopped : {instances : List Instance} {before after : Path} {fault : EnterFault} →
       IsSoundPath before → AreOverPath before instances → EntersAll instances before after →
       Stops instances before fault → ⊥
-  all_not_stopped {after} {fault} sound over (entering.more {instance} {instances} {before} {between} first rest)
+  all_not_stopped sound over entering.none stops = elim stops [ ]
+  all_not_stopped {fault} sound over (entering.more {instance} {instances} {before} {between} first rest)
       (here passes) =
       not_past instance before sound (first_over instance instances before sound over) between fault first passes
   all_not_stopped {fault} sound over (entering.more {instance} {instances} {before} {between} first rest)
@@ -300,7 +309,7 @@ module _ (once : AssertsOnce) where
       all_not_stopped (entry_sound instance before sound first_is between first)
       (rest_over instance instances before sound over between first) rest
       (subst (λ (path : Path). Stops instances path fault)
-      (same_between instance instances before sound over between between' first first') stops)
+      (same_between instance instances before sound over once between between' first first') stops)
 
   -- and the first that is has one fault
   pub stops_all_once : {instances : List Instance} {before : Path} {fault other : EnterFault} →
@@ -320,4 +329,4 @@ module _ (once : AssertsOnce) where
       stops_all_once (entry_sound instance before sound first_is between first)
       (rest_over instance instances before sound over between first) stops
       (subst (λ (path : Path). Stops instances path other)
-      (same_between instance instances before sound over between between' first first') stops')
+      (same_between instance instances before sound over once between between' first first') stops')
