@@ -7,6 +7,7 @@ pub mod WorkLemmas
 pub mod OperationLemmas
 pub mod StackLemmas
 pub mod AssertLemmas
+pub mod LevelLemmas
 pub mod MarkLemmas
 pub mod EnteredLemmas
 pub mod ExactLemmas

@@ -184,16 +184,19 @@ impl AssertionStack {
     {
         Mark {
             version: self.graph.version(),
+            nodes: self.formulas.len(),
+            foralls: self.formulas.foralls(),
             asserted: self.asserted.len(),
         }
     }
 
-    /// Goes back to what was held at a mark, over the same formulas and in the same levels. Takes no memory.
+    /// Goes back to what was held at a mark, and to the formulas that stood then, in the same levels. Takes no memory.
     pub fn back_to(&mut self, mark: Mark)
-        requires { (before : Assertions) × IsMark before mark × HoldsMoreOver before self.old }
-        ensures { (before : Assertions) → IsMark before mark → HoldsMoreOver before self.old → self.new ≡ before }
+        requires { (before : Assertions) × IsMark before mark × KeepsLevels before self.old }
+        ensures { (before : Assertions) → IsMark before mark → KeepsLevels before self.old → self.new ≡ before }
     {
         take_back_to(&mut self.graph, mark.version);
+        self.formulas.cut(mark.nodes, mark.foralls);
         self.asserted.keep_first(mark.asserted);
     }
 

@@ -12,11 +12,19 @@ ghost use Rattle.formula_assert.specs.Tables.{AreTables};
 ghost use Rattle.formula_assert.specs.Exactly.{AreExact};
 ghost use Rattle.formula_assert.specs.NoForalls.{HasNoForalls};
 ghost use Rattle.formula_assert.specs.Stands.{AreAssertions};
-ghost use Rattle.formula_assert.specs.InLevel.{KeepsLevels, StandAlike};
+ghost use Rattle.formula_assert.specs.InLevel.{HoldsMoreOver, KeepsLevels, StandAlike};
 
 /// To assert a node has one outcome at most.
 pub fn asserts_law()
     ensures once { (formulas : Formulas) (n : ℕ) (before one other : Held) → Asserts formulas n before one → Asserts formulas n before other → one ≡ other }
+{}
+
+/// The levels are kept where nothing comes, where more is held over the same formulas, and where they are kept and then kept
+/// again.
+pub fn over_law()
+    ensures same { (now : Assertions) → KeepsLevels now now }
+    ensures over { (before after : Assertions) → HoldsMoreOver before after → KeepsLevels before after }
+    ensures both { (first second third : Assertions) → KeepsLevels first second → KeepsLevels second third → KeepsLevels first third }
 {}
 
 /// What came in a level goes with it, and a level that ends gives back what stood when it was opened.
