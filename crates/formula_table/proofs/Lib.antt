@@ -13,3 +13,4 @@ pub mod EntryLemmas
 pub mod BodyLemmas
 pub mod ForallLemmas
 pub mod NodeLemmas
+pub mod InstanceLemmas

@@ -2,6 +2,7 @@
 #![tactic(auto)]
 
 mod body;
+mod enter_body;
 pub mod enter_fault;
 mod enter_foralls;
 mod enter_nodes;
