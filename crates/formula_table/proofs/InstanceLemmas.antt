@@ -1,8 +1,9 @@
 -- How the body of a forall is entered.
-use Rattle.std.proofs.Common.{◌≡◌, ℕ, zero, suc, ◌<◌, Bool, true, List, [], ◌∷◌, length, replicate, get_or, slice_get, Some, All, Contains, refl, sym, ap, subst, ◌∙◌, arith}
+use Rattle.std.proofs.Common.{◌≡◌, ℕ, zero, suc, ◌<◌, Bool, true, List, [], ◌∷◌, length, replicate, get_or, slice_get, Some, All, Contains, refl, sym, ap, subst, ◌∙◌, inl, arith}
 use Rattle.std.proofs.lemmas.List.{length-replicate}
 use Rattle.std.proofs.lemmas.Option.{same_Some, slice_get_within, slice_get-get_or}
 use Rattle.std.proofs.lemmas.List.Elements.{All-contains}
+use Rattle.graph_terms.specs.declared.term_row.TermRow.{TermRow}
 use Rattle.formula_draft.specs.declared.draft_node.DraftNode.{DraftNode}
 use Rattle.formula_draft.specs.DraftNode.{parts_of, foralls_of}
 use Rattle.formula_draft.specs.Reach.{ReachesNode, ReachesRow}
@@ -15,9 +16,11 @@ use Rattle.formula_table.specs.Body.{IsFormulaOver, IsCompact}
 use Rattle.formula_table.specs.Formulas.{Formulas, IsFormulaTable, IsForallOf, FitsTable, GrowsTable, NamesFirst}
 use Rattle.formula_table.specs.declared.node.Node.{Node}
 use Rattle.formula_table.specs.declared.node.Node.TheVariants.{Forall}
-use Rattle.formula_table.specs.Entry.{entered_node, BecomesNode, ReachesForall}
+use Rattle.formula_table.specs.declared.enter_fault.EnterFault.{EnterFault}
+use Rattle.formula_table.specs.declared.enter_fault.EnterFault.TheVariants.{TermsFull, NodesFull, Memory}
+use Rattle.formula_table.specs.Entry.{entered_node, BecomesNode, ReachesForall, RowsGrow, TableGrows, StopsTable, StopsEntry}
 use Rattle.formula_table.specs.EntryInside.{ForallsEntered, NodeNumbersStand}
-use Rattle.formula_table.specs.Instance.{HasVariables, HasBody}
+use Rattle.formula_table.specs.Instance.{HasVariables, HasBody, EntersInstance, StopsInstance}
 use Rattle.formula_table.proofs.BecomesLaws.{forall_stands}
 use Rattle.formula_table.proofs.StandLaws.{fits_entered}
 use Rattle.formula_table.proofs.ForallLemmas.{foralls_none}
@@ -126,3 +129,33 @@ has_body_in table forall body has = (_, slice_get-get_or table.foralls forall _ 
 
 pub body_in_is : (table : Formulas) (forall : ℕ) (body : Formula) → HasBody table forall body → body_in table forall ≡ body
 body_in_is table forall body has = one_body table forall (body_in table forall) body (has_body_in table forall body has) has
+
+module _ (grown refused : List TermRow → Type 0) (forall : ℕ) (tuple : List ℕ) (rows : List TermRow) (limit : ℕ) (old : Formulas) (body other : Formula) (has : HasBody old forall body) (same : other ≡ body) (terms shown : List ℕ) (shown_are : shown ≡ terms)
+    (rows_grow : RowsGrow grown body tuple rows limit terms) where
+  rows_here : RowsGrow grown has.0.body tuple rows limit terms
+  rows_here = subst (λ (of : Formula). RowsGrow grown of tuple rows limit terms) (sym has.2) rows_grow
+
+  -- rows and nodes were entered
+  pub instance_entered : (new : Formulas) (number : ℕ) → TableGrows other shown old new number → EntersInstance grown forall tuple rows limit old new number
+  instance_entered new number grows = record {
+    quantified = has.0;
+    is_forall = has.1;
+    enters = record {
+      terms = terms;
+      rows_grow = rows_here;
+      table_grows = subst (λ (of : Formula). TableGrows of terms old new number) (same ∙ sym has.2) (subst (λ (of : List ℕ). TableGrows other of old new number) shown_are grows);
+    };
+  }
+
+  entry_stops : (fault : EnterFault) → StopsTable has.0.body terms old fault → StopsEntry grown refused has.0.body tuple rows limit old fault
+  entry_stops TermsFull stops = absurd stops
+  entry_stops NodesFull stops = record { terms = terms; rows_grow = rows_here; fills = stops }
+  entry_stops Memory stops = record { added = rows_here.added; terms = terms; grew = inl rows_here.grew; enters = rows_here.enters }
+
+  -- rows were entered, and not all nodes
+  pub instance_stopped : (fault : EnterFault) → StopsTable other shown old fault → StopsInstance grown refused forall tuple rows limit old fault
+  instance_stopped fault stops = record {
+    quantified = has.0;
+    is_forall = has.1;
+    stops = entry_stops fault (subst (λ (of : Formula). StopsTable of terms old fault) (same ∙ sym has.2) (subst (λ (of : List ℕ). StopsTable other of old fault) shown_are stops));
+  }
