@@ -14,3 +14,4 @@ pub mod BodyLemmas
 pub mod ForallLemmas
 pub mod NodeLemmas
 pub mod InstanceLemmas
+pub mod LawLemmas

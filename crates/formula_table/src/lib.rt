@@ -8,6 +8,7 @@ mod enter_foralls;
 mod enter_nodes;
 mod enter_rows;
 pub mod formula_table;
+pub mod laws;
 pub mod node;
 mod reached;
 mod row_list;
