@@ -1,19 +1,19 @@
 -- How the body of a forall is entered.
-use Rattle.std.proofs.Common.{◌≡◌, ℕ, zero, suc, ◌<◌, Bool, true, List, [], ◌∷◌, length, replicate, get_or, slice_get, Some, All, Contains, refl, sym, ap, subst, ◌∙◌, inl, arith}
+use Rattle.std.proofs.Common.{◌≡◌, ℕ, zero, suc, ◌<◌, Bool, true, List, [], length, replicate, get_or, slice_get, Some, All, refl, sym, ap, subst, ◌∙◌, inl, arith}
 use Rattle.std.proofs.lemmas.List.{length-replicate}
 use Rattle.std.proofs.lemmas.Option.{same_Some, slice_get_within, slice_get-get_or}
 use Rattle.std.proofs.lemmas.List.Elements.{All-contains}
 use Rattle.graph_terms.specs.declared.term_row.TermRow.{TermRow}
 use Rattle.formula_draft.specs.declared.draft_node.DraftNode.{DraftNode}
 use Rattle.formula_draft.specs.DraftNode.{parts_of, foralls_of}
-use Rattle.formula_draft.specs.Reach.{ReachesNode, ReachesRow}
+use Rattle.formula_draft.specs.Reach.{ReachesRow}
 use Rattle.formula_draft.specs.Reach.ReachesNode.{part_of_it}
 use Rattle.formula_draft.specs.Draft.{Formula}
 use Rattle.formula_draft.proofs.ReachLaws.{row_stands, back}
 use Rattle.formula_table.specs.declared.table_forall.TableForall.{TableForall}
 use Rattle.formula_table.specs.Marks.{IsMarked, AreMarks}
 use Rattle.formula_table.specs.Body.{IsFormulaOver, IsCompact}
-use Rattle.formula_table.specs.Formulas.{Formulas, IsFormulaTable, IsForallOf, FitsTable, GrowsTable, NamesFirst}
+use Rattle.formula_table.specs.Formulas.{Formulas, IsFormulaTable, FitsTable, GrowsTable, NamesFirst}
 use Rattle.formula_table.specs.declared.node.Node.{Node}
 use Rattle.formula_table.specs.declared.node.Node.TheVariants.{Forall}
 use Rattle.formula_table.specs.declared.enter_fault.EnterFault.{EnterFault}

@@ -1,4 +1,4 @@
-use Rattle.std.proofs.Common.{◌<◌, [], ℕ, List, length, All, sym, subst}
+use Rattle.std.proofs.Common.{◌<◌, [], ℕ, length, All, sym, subst}
 use Rattle.formula_draft.specs.DraftNode.{rows_of}
 use Rattle.formula_table.specs.Formulas.{FitsTable}
 use Rattle.formula_table.specs.EntryInside.{StopsNode}

@@ -1,4 +1,4 @@
-use Rattle.std.proofs.Common.{[], ℕ, List, Bool, length, sym, subst, ◌∙◌, inl}
+use Rattle.std.proofs.Common.{[], length, sym, subst, ◌∙◌, inl}
 use Rattle.formula_table.specs.Entry.{BecomesRow}
 use Rattle.formula_table.specs.EntryInside.{StopsRows}
 use Rattle.formula_table.proofs.InOrderLemmas.{none_in_order}

@@ -1,4 +1,3 @@
-use Rattle.std.specs.Prelude.{[]}
 use Rattle.formula_table.proofs.InstanceLemmas.{body_in}
 use Rattle.formula_table.proofs.formula_table.FormulaTable.instance.Given as goal
 
