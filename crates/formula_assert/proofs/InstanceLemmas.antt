@@ -14,10 +14,9 @@ use Rattle.formula_table.specs.Formulas.{Formulas, IsFormulaTable}
 use Rattle.formula_table.specs.Instance.{HasVariables, EntersInstance, StopsInstance}
 use Rattle.match_graph.specs.GraphTerms.{with_terms}
 use Rattle.formula_assert.specs.declared.level.Level.{Level}
-use Rattle.formula_assert.specs.Held.{Held, held}
+use Rattle.formula_assert.specs.Held.{held}
 use Rattle.formula_assert.specs.Assertions.{Assertions, held_of}
 use Rattle.formula_assert.specs.Asserts.{Asserts}
-use Rattle.formula_assert.specs.AssertFormula.{AssertsOver, StopsOver}
 use Rattle.formula_assert.specs.AssertInstance.{TermsStand, AssertsInstance, StopsAssertInstance}
 use Rattle.formula_assert.specs.InLevel.{HoldsMoreOver, KeepsLevels}
 use Rattle.formula_assert.specs.StackInside.{IsStackOf, assertions_with}
