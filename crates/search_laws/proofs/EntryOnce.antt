@@ -1,5 +1,5 @@
 -- Instances are entered in one way, or refused in one way; and what is sound stays so where they are entered.
-use Rattle.std.proofs.Common.{◌≡◌, ℕ, zero, suc, ◌<◌, ◌≤◌, List, [], ◌∷◌, ◌++◌, length, map, slice_get, Some, All}
+use Rattle.std.proofs.Common.{◌≡◌, ◌≢◌, ℕ, zero, suc, ◌<◌, ◌≤◌, List, [], ◌∷◌, ◌++◌, length, map, slice_get, Some, All}
 use Rattle.std.proofs.Common.{Contains, refl, sym, ap, subst, ◌∙◌, append-nil, append_assoc, arith}
 use Rattle.std.proofs.lemmas.Option.{none-some, same_Some}
 use Rattle.std.proofs.lemmas.List.{length-append, map-append}
@@ -15,16 +15,19 @@ use Rattle.match_graph.specs.GraphTerms.{adding, with_terms}
 use Rattle.match_graph.specs.GraphTermsLaws.{terms-with_terms}
 use Rattle.match_store.specs.declared.instance.Instance.{Instance}
 use Rattle.formula_table.specs.declared.enter_fault.EnterFault.{EnterFault}
+use Rattle.formula_table.specs.declared.enter_fault.EnterFault.TheVariants.{TermsFull, NodesFull, Memory}
 use Rattle.formula_table.specs.declared.table_forall.TableForall.{TableForall}
-use Rattle.formula_table.specs.Body.{IsFormulaOver}
-use Rattle.formula_table.specs.Entry.{Enters, StopsEntry}
-use Rattle.formula_table.specs.Formulas.{Formulas, IsFormulaTable, NodesStand}
+use Rattle.formula_draft.specs.Draft.{Formula}
+use Rattle.formula_table.specs.Entry.{StopsEntry}
+use Rattle.formula_table.specs.Formulas.{Formulas, NodesStand}
 use Rattle.formula_table.specs.Instance.{HasVariables}
-use Rattle.formula_table.proofs.EntryLaws.{enters_once-into, stopped_not_entered, stops_once}
-use Rattle.formula_table.proofs.StandLaws.{stands_after}
 use Rattle.formula_assert.specs.Held.{Held, held}
 use Rattle.formula_assert.specs.Asserts.{Asserts}
 use Rattle.formula_assert.specs.Exactly.{operations_in}
+use Rattle.formula_assert.specs.Assertions.{Assertions}
+use Rattle.formula_assert.specs.AssertFormula.{StopsOver, KeepsFormulas}
+use Rattle.formula_assert.specs.AssertInstance.{TermsStand, AssertsInstance, StopsAssertInstance}
+use Rattle.formula_assert.specs.Tables.{AreTables}
 use Rattle.search_laws.specs.Path.{Path}
 use Rattle.search_laws.specs.Rounds.{graph_in, EntersOne, EntersAll, PassesLimit, Overflows}
 use Rattle.search_laws.specs.Rounds as entering
@@ -32,10 +35,23 @@ use Rattle.search_laws.proofs.Places.{map_from, with_more, contains_head, contai
 use Rattle.search_laws.proofs.SoundLemmas.{OpFits, count_in, IsSound, IsSoundPath, IsOver, IsOverPath}
 use Rattle.search_laws.proofs.SoundLemmas.{sound_asserts, asserts_rows}
 
--- to assert a formula has one outcome
-abbrev pub AssertsOnce : Type 0
-AssertsOnce = (formulas : Formulas) (n : ℕ) (before one other : Held) → Asserts formulas n before one →
-    Asserts formulas n before other → one ≡ other
+-- what is known of instances of foralls, over terms that stand, one for each variable: tables stay tables where one is
+-- asserted, and one is asserted in one way, and then not refused, and refused in one way, but for want of memory
+pub record InstanceLaws : Type 0 where
+  pub tables : (forall : ℕ) (tuple : List ℕ) (before after : Assertions) →
+      HasVariables before.formulas forall (length tuple) → TermsStand before tuple → AreTables before →
+      AssertsInstance forall tuple before after → AreTables after
+  pub once : (forall : ℕ) (tuple : List ℕ) (before one other : Assertions) →
+      HasVariables before.formulas forall (length tuple) → TermsStand before tuple → AreTables before →
+      AssertsInstance forall tuple before one → AssertsInstance forall tuple before other → one ≡ other
+  pub not_both : (forall : ℕ) (tuple : List ℕ) (before one other : Assertions) (fault : EnterFault) →
+      HasVariables before.formulas forall (length tuple) → TermsStand before tuple → AreTables before →
+      (fault ≢ Memory) → AssertsInstance forall tuple before one →
+      StopsAssertInstance forall tuple before other fault → ⊥
+  pub alike : (forall : ℕ) (tuple : List ℕ) (before one other : Assertions) (fault also : EnterFault) →
+      HasVariables before.formulas forall (length tuple) → TermsStand before tuple → AreTables before →
+      (fault ≢ Memory) → (also ≢ Memory) → StopsAssertInstance forall tuple before one fault →
+      StopsAssertInstance forall tuple before other also → (fault ≡ also) × (one ≡ other)
 
 -- what stands at a place does where more is put at the end
 at_front : {X : Type 0} (xs ys : List X) (k : ℕ) (x : X) → slice_get xs k ≡ Some x → slice_get (xs ++ ys) k ≡ Some x
@@ -86,14 +102,60 @@ module _ (old new : Formulas) (count later : ℕ) (more : AreMore old new count 
         (λ term less. let terms = more.terms in omega (arith, less, terms)) instance.tuple over.stand;
   }
 
--- the body of a forall is a formula over as many variables as the forall has
-body_over : (formulas : Formulas) → IsFormulaTable formulas → (forall n : ℕ) (quantified : TableForall) →
-    slice_get formulas.foralls forall ≡ Some quantified → HasVariables formulas forall n →
-    IsFormulaOver n quantified.body
-body_over formulas table forall n quantified is has =
-    let found : quantified ≡ has.0 = same_Some quantified has.0 (sym is ∙ has.1) in
-    subst (λ k. IsFormulaOver k quantified.body) (ap (λ (item : TableForall). item.variables) found ∙ has.2)
-    (table.foralls forall quantified is).body_over
+-- this graph and what stands on the path, at no level
+abbrev with_graph : Path → GraphState → Assertions
+with_graph path graph = record {
+  graph = graph;
+  formulas = path.formulas;
+  asserted = path.branch.held.asserted;
+  saved = [];
+}
+
+-- what stands on the path
+abbrev assertions_in : Path → Assertions
+assertions_in path = with_graph path (graph_in path)
+
+tables_in : (path : Path) → IsSoundPath path → AreTables (assertions_in path)
+tables_in path sound = record {
+  terms = sound.terms;
+  formulas = record { table = sound.table; terms = sound.stand };
+  saved = tt;
+}
+
+-- to enter an instance on the path is to assert it
+asserts_instance : (instance : Instance) (before after : Path) → EntersOne instance before after →
+    AssertsInstance instance.forall instance.tuple (assertions_in before) (assertions_in after)
+asserts_instance instance before after one = record {
+  quantified = one.enters.quantified;
+  is_forall = one.enters.is_forall;
+  asserts_body = record {
+    entered = one.entered;
+    root = one.root;
+    enters = one.enters.enters;
+    asserts = one.asserts;
+    saved_is = refl;
+  };
+}
+
+-- and to pass a limit is to be refused
+stops_over : (path : Path) (entered : GraphState) (body : Formula) (tuple : List ℕ) (fault : EnterFault) →
+    (fault ≢ Memory) → StopsEntry (λ more. entered ≡ with_terms (graph_in path) more) (λ more. ⊥) body tuple
+    (terms_of (graph_in path).standing) (graph_in path).limit path.formulas fault →
+    StopsOver body tuple (assertions_in path) (with_graph path entered) fault
+stops_over path entered body tuple TermsFull not stops =
+    (stops, record { formulas_are = refl; asserted_are = refl; saved_are = refl })
+stops_over path entered body tuple NodesFull not stops =
+    (stops, record { formulas_are = refl; asserted_are = refl; saved_are = refl })
+stops_over path entered body tuple Memory not stops = absurd (not refl)
+
+stops_instance : (instance : Instance) (path : Path) (fault : EnterFault) (passes : PassesLimit path instance fault) →
+    StopsAssertInstance instance.forall instance.tuple (assertions_in path) (with_graph path passes.entered) fault
+stops_instance instance path fault passes = record {
+  quantified = passes.stops.quantified;
+  is_forall = passes.stops.is_forall;
+  stops_body = stops_over path passes.entered (passes.stops.quantified).body instance.tuple fault passes.is_limit
+      passes.stops.stops;
+}
 
 abbrev path_of : Held → Formulas → List (ℕ × ℕ) → List Instance → List ℕ → Path
 path_of now formulas struck done spent = record {
@@ -113,78 +175,34 @@ same_path one other holds formulas struck done spent =
     ∙ ap (λ (list : List Instance). path_of other.branch.held other.formulas other.branch.struck list one.spent) done
     ∙ ap (λ (list : List ℕ). path_of other.branch.held other.formulas other.branch.struck other.done list) spent
 
-module _ (instance : Instance) (before : Path) (sound : IsSoundPath before) (over : IsOverPath before instance) where
-  is_over : (quantified : TableForall) → slice_get before.formulas.foralls instance.forall ≡ Some quantified →
-      IsFormulaOver (length instance.tuple) quantified.body
-  is_over quantified is = body_over before.formulas sound.table instance.forall (length instance.tuple) quantified is
-      over.variables
-
-  -- the terms of the graph became these
-  abbrev Gains : GraphState → List TermRow → Type 0
-  Gains entered more = entered ≡ with_terms (graph_in before) more
-
-  -- the body of the forall is entered, or not
-  abbrev EntersBody : GraphState → Formulas → ℕ → TableForall → Type 0
-  EntersBody entered new root quantified = Enters (Gains entered) quantified.body instance.tuple
-      (terms_of (graph_in before).standing) (graph_in before).limit before.formulas new root
-
-  abbrev StopsBody : GraphState → EnterFault → TableForall → Type 0
-  StopsBody entered fault quantified = StopsEntry (Gains entered) (λ more. ⊥) quantified.body instance.tuple
-      (terms_of (graph_in before).standing) (graph_in before).limit before.formulas fault
-
+module _ (laws : InstanceLaws) (instance : Instance) (before : Path) (sound : IsSoundPath before)
+    (over : IsOverPath before instance) where
   -- an instance is entered in one way
-  pub entry_once : AssertsOnce → (one other : Path) → EntersOne instance before one →
-      EntersOne instance before other → one ≡ other
-  entry_once once one other first second =
-      let item = first.enters.quantified in
-      let also : second.enters.quantified ≡ item = same_Some second.enters.quantified item
-      (sym second.enters.is_forall ∙ first.enters.is_forall) in
-      let enters : EntersBody second.entered other.formulas second.root item =
-      subst (EntersBody second.entered other.formulas second.root) also second.enters.enters in
-      let entry = enters_once-into (with_terms (graph_in before)) first.entered second.entered item.body
-      instance.tuple (is_over item first.enters.is_forall) (terms_of (graph_in before).standing) over.stand
-      sound.terms (graph_in before).limit before.formulas sound.table one.formulas other.formulas first.root
-      second.root first.enters.enters enters in
-      let moved : Asserts one.formulas first.root (held first.entered before.branch.held.asserted) other.branch.held =
-      subst (λ (table : Formulas). Asserts table first.root (held first.entered before.branch.held.asserted)
-      other.branch.held) (sym entry.1)
-      (subst (λ (n : ℕ). Asserts other.formulas n (held first.entered before.branch.held.asserted) other.branch.held)
-      (sym entry.2)
-      (subst (λ (graph : GraphState). Asserts other.formulas second.root (held graph before.branch.held.asserted)
-      other.branch.held) (sym entry.0) second.asserts)) in
-      same_path one other
-      (once one.formulas first.root (held first.entered before.branch.held.asserted) one.branch.held
-      other.branch.held first.asserts moved)
-      entry.1 (first.struck_is ∙ sym second.struck_is) (first.done_is ∙ sym second.done_is)
-      (first.spent_is ∙ sym second.spent_is)
+  entry_once : (one other : Path) → EntersOne instance before one → EntersOne instance before other → one ≡ other
+  entry_once one other first second =
+      let same : assertions_in one ≡ assertions_in other =
+      laws.once instance.forall instance.tuple (assertions_in before) (assertions_in one) (assertions_in other)
+      over.variables over.stand (tables_in before sound) (asserts_instance instance before one first)
+      (asserts_instance instance before other second) in
+      same_path one other (ap (λ (now : Assertions). held now.graph now.asserted) same)
+      (ap (λ (now : Assertions). now.formulas) same) (first.struck_is ∙ sym second.struck_is)
+      (first.done_is ∙ sym second.done_is) (first.spent_is ∙ sym second.spent_is)
 
   -- and then not refused
-  pub not_past : (after : Path) (fault : EnterFault) → EntersOne instance before after →
+  not_past : (after : Path) (fault : EnterFault) → EntersOne instance before after →
       PassesLimit before instance fault → ⊥
-  not_past after fault one passes =
-      let item = one.enters.quantified in
-      let also : passes.stops.quantified ≡ item = same_Some passes.stops.quantified item
-      (sym passes.stops.is_forall ∙ one.enters.is_forall) in
-      let stops : StopsBody passes.entered fault item = subst (StopsBody passes.entered fault) also passes.stops.stops
-      in
-      stopped_not_entered (Gains passes.entered) (Gains one.entered) (λ more. ⊥) item.body instance.tuple
-      (is_over item one.enters.is_forall) (terms_of (graph_in before).standing) over.stand sound.terms
-      (graph_in before).limit before.formulas sound.table after.formulas one.root fault passes.is_limit stops
-      one.enters.enters
+  not_past after fault one passes = laws.not_both instance.forall instance.tuple (assertions_in before)
+      (assertions_in after) (with_graph before passes.entered) fault over.variables over.stand
+      (tables_in before sound) passes.is_limit (asserts_instance instance before after one)
+      (stops_instance instance before fault passes)
 
   -- it is refused in one way
-  pub fault_once : (fault other : EnterFault) → PassesLimit before instance fault →
-      PassesLimit before instance other → fault ≡ other
-  fault_once fault other first second =
-      let item = first.stops.quantified in
-      let also : second.stops.quantified ≡ item = same_Some second.stops.quantified item
-      (sym second.stops.is_forall ∙ first.stops.is_forall) in
-      let stops : StopsBody second.entered other item = subst (StopsBody second.entered other) also second.stops.stops
-      in
-      (stops_once (Gains first.entered) (Gains second.entered) (λ more. ⊥) (λ more. ⊥) item.body instance.tuple
-      (is_over item first.stops.is_forall) (terms_of (graph_in before).standing) over.stand sound.terms
-      (graph_in before).limit before.formulas sound.table fault other first.is_limit second.is_limit
-      first.stops.stops stops).0
+  fault_once : (fault other : EnterFault) → PassesLimit before instance fault → PassesLimit before instance other →
+      fault ≡ other
+  fault_once fault other first second = (laws.alike instance.forall instance.tuple (assertions_in before)
+      (with_graph before first.entered) (with_graph before second.entered) fault other over.variables over.stand
+      (tables_in before sound) first.is_limit second.is_limit (stops_instance instance before fault first)
+      (stops_instance instance before other second)).0
 
   module _ (after : Path) (one : EntersOne instance before after) where
     abbrev added : List TermRow
@@ -207,17 +225,19 @@ module _ (instance : Instance) (before : Path) (sound : IsSoundPath before) (ove
           (ap (λ (table : Formulas). table.foralls) one.enters.enters.table_grows.new_is);
     }
 
+    after_rows : terms_of (graph_in after).standing ≡ terms_of one.entered.standing
+    after_rows = asserts_rows after.formulas one.asserts
+
     entered_sound : IsSound after.formulas one.entered
     entered_sound =
-        let item = one.enters.quantified in
-        let all = stands_after (Gains one.entered) item.body instance.tuple (is_over item one.enters.is_forall)
-        (terms_of (graph_in before).standing) over.stand (graph_in before).limit before.formulas after.formulas
-        one.root one.enters.enters in
+        let tables : AreTables (assertions_in after) =
+        laws.tables instance.forall instance.tuple (assertions_in before) (assertions_in after) over.variables
+        over.stand (tables_in before sound) (asserts_instance instance before after one) in
         record {
-          terms = subst IsTable (sym rows_are) (all.rows_stand sound.terms);
-          table = all.formulas_stand sound.table;
-          stand = subst (λ (rows : List TermRow). NodesStand (length rows) after.formulas.nodes) (sym rows_are)
-              (all.terms_stand sound.stand);
+          terms = subst IsTable after_rows tables.terms;
+          table = tables.formulas.table;
+          stand = subst (λ (rows : List TermRow). NodesStand (length rows) after.formulas.nodes) after_rows
+              tables.formulas.terms;
           fits = λ op c. with_more (OpFits after.formulas (count_in one.entered))
               (operations_in (graph_in before).standing) (map adding added)
               (λ old had. op_grown before.formulas after.formulas (count_in (graph_in before)) (count_in one.entered)
@@ -228,13 +248,13 @@ module _ (instance : Instance) (before : Path) (sound : IsSoundPath before) (ove
         }
 
     -- what is sound stays so
-    pub entry_sound : IsSoundPath after
+    entry_sound : IsSoundPath after
     entry_sound = sound_asserts after.formulas one.asserts entered_sound
 
     -- and an instance over terms that stand does
-    pub entry_over : (next : Instance) → IsOverPath before next → IsOverPath after next
+    entry_over : (next : Instance) → IsOverPath before next → IsOverPath after next
     entry_over next stands = subst (λ (rows : List TermRow). IsOver after.formulas (length rows) next)
-        (sym (asserts_rows after.formulas one.asserts))
+        (sym after_rows)
         (over_grown before.formulas after.formulas (count_in (graph_in before)) (count_in one.entered) entered_more
         next stands)
 
@@ -261,28 +281,28 @@ stops_of instances path fault over = subst (λ (list : List Instance). Stops lis
 abbrev pub AreOverPath : Path → List Instance → Type 0
 AreOverPath path instances = (instance : Instance) → Contains instances instance → IsOverPath path instance
 
-module _ (instance : Instance) (instances : List Instance) (before : Path) (sound : IsSoundPath before)
-    (over : AreOverPath before (instance ∷ instances)) where
-  first_over : IsOverPath before instance
-  first_over = over instance (contains_head instance instances)
+module _ (laws : InstanceLaws) where
+  module _ (instance : Instance) (instances : List Instance) (before : Path) (sound : IsSoundPath before)
+      (over : AreOverPath before (instance ∷ instances)) where
+    first_over : IsOverPath before instance
+    first_over = over instance (contains_head instance instances)
 
-  rest_over : (between : Path) → EntersOne instance before between → AreOverPath between instances
-  rest_over between one next c = entry_over instance before sound first_over between one next
-      (over next (contains_later instance next instances c))
+    rest_over : (between : Path) → EntersOne instance before between → AreOverPath between instances
+    rest_over between one next c = entry_over laws instance before sound first_over between one next
+        (over next (contains_later instance next instances c))
 
-  same_between : AssertsOnce → (between other : Path) → EntersOne instance before between →
-      EntersOne instance before other → other ≡ between
-  same_between once between other one two = entry_once instance before sound first_over once other between two one
+    same_between : (between other : Path) → EntersOne instance before between →
+        EntersOne instance before other → other ≡ between
+    same_between between other one two = entry_once laws instance before sound first_over other between two one
 
--- what is sound stays so where instances are entered
-pub all_sound : {instances : List Instance} {before after : Path} → IsSoundPath before →
-    AreOverPath before instances → EntersAll instances before after → IsSoundPath after
-all_sound sound over entering.none = sound
-all_sound sound over (entering.more {instance} {instances} {before} {between} first rest) =
-    all_sound (entry_sound instance before sound (first_over instance instances before sound over) between first)
-    (rest_over instance instances before sound over between first) rest
+  -- what is sound stays so where instances are entered
+  pub all_sound : {instances : List Instance} {before after : Path} → IsSoundPath before →
+      AreOverPath before instances → EntersAll instances before after → IsSoundPath after
+  all_sound sound over entering.none = sound
+  all_sound sound over (entering.more {instance} {instances} {before} {between} first rest) =
+      all_sound (entry_sound laws instance before sound (first_over instance instances before sound over) between first)
+      (rest_over instance instances before sound over between first) rest
 
-module _ (once : AssertsOnce) where
   -- instances are entered in one way
   pub all_once : {instances : List Instance} {before one other : Path} → IsSoundPath before →
       AreOverPath before instances → EntersAll instances before one → EntersAll instances before other → one ≡ other
@@ -290,10 +310,10 @@ module _ (once : AssertsOnce) where
   all_once {other} sound over (entering.more {instance} {instances} {before} {between} first rest)
       (entering.more {between = between'} first' rest') =
       let first_is = first_over instance instances before sound over in
-      all_once (entry_sound instance before sound first_is between first)
+      all_once (entry_sound laws instance before sound first_is between first)
       (rest_over instance instances before sound over between first) rest
       (subst (λ (path : Path). EntersAll instances path other)
-      (same_between instance instances before sound over once between between' first first') rest')
+      (same_between instance instances before sound over between between' first first') rest')
 
   -- and then none is past a limit
   pub all_not_stopped : {instances : List Instance} {before after : Path} {fault : EnterFault} →
@@ -302,31 +322,31 @@ module _ (once : AssertsOnce) where
   all_not_stopped sound over entering.none stops = elim stops [ ]
   all_not_stopped {fault} sound over (entering.more {instance} {instances} {before} {between} first rest)
       (here passes) =
-      not_past instance before sound (first_over instance instances before sound over) between fault first passes
+      not_past laws instance before sound (first_over instance instances before sound over) between fault first passes
   all_not_stopped {fault} sound over (entering.more {instance} {instances} {before} {between} first rest)
       (later {between = between'} first' stops) =
       let first_is = first_over instance instances before sound over in
-      all_not_stopped (entry_sound instance before sound first_is between first)
+      all_not_stopped (entry_sound laws instance before sound first_is between first)
       (rest_over instance instances before sound over between first) rest
       (subst (λ (path : Path). Stops instances path fault)
-      (same_between instance instances before sound over once between between' first first') stops)
+      (same_between instance instances before sound over between between' first first') stops)
 
   -- and the first that is has one fault
   pub stops_all_once : {instances : List Instance} {before : Path} {fault other : EnterFault} →
       IsSoundPath before → AreOverPath before instances → Stops instances before fault →
       Stops instances before other → fault ≡ other
   stops_all_once {other} sound over (here {instance} {instances} {before} {fault} passes) (here passes') =
-      fault_once instance before sound (first_over instance instances before sound over) fault other passes passes'
+      fault_once laws instance before sound (first_over instance instances before sound over) fault other passes passes'
   stops_all_once sound over (here {instance} {instances} {before} {fault} passes) (later {between} first stops) =
-      absurd (not_past instance before sound (first_over instance instances before sound over) between fault first
+      absurd (not_past laws instance before sound (first_over instance instances before sound over) between fault first
       passes)
   stops_all_once {other} sound over (later {instance} {instances} {before} {between} first stops) (here passes) =
-      absurd (not_past instance before sound (first_over instance instances before sound over) between other first
+      absurd (not_past laws instance before sound (first_over instance instances before sound over) between other first
       passes)
   stops_all_once {other} sound over (later {instance} {instances} {before} {between} first stops)
       (later {between = between'} first' stops') =
       let first_is = first_over instance instances before sound over in
-      stops_all_once (entry_sound instance before sound first_is between first)
+      stops_all_once (entry_sound laws instance before sound first_is between first)
       (rest_over instance instances before sound over between first) stops
       (subst (λ (path : Path). Stops instances path other)
-      (same_between instance instances before sound over once between between' first first') stops')
+      (same_between instance instances before sound over between between' first first') stops')

@@ -26,13 +26,18 @@ use Rattle.search_laws.specs.Laws.{HasOneVerdict}
 use Rattle.search_laws.proofs.FormulaLemmas.{one_node, same_ors}
 use Rattle.search_laws.proofs.SoundLemmas.{IsSound, IsSoundPath, sound_start, sound_asserts, sound_struck}
 use Rattle.search_laws.proofs.SoundLemmas.{sound_closes, new_over}
-use Rattle.search_laws.proofs.EntryOnce.{AssertsOnce, AreOverPath, all_once, all_not_stopped, stops_of}
+use Rattle.search_laws.proofs.EntryOnce.{InstanceLaws, AreOverPath, all_once, all_not_stopped, stops_of}
 use Rattle.search_laws.proofs.EntryOnce.{stops_all_once, all_sound}
 
 -- of two numbers neither of which is below the other
 neither_below : (m n : ℕ) → (m < n → ⊥) → (n < m → ⊥) → m ≡ n
 neither_below m n a b =
     ⊎_elim (λ h. absurd (a h)) (λ h. ⊎_elim (λ k. absurd (b k)) (λ k. omega arith) (cases_lt n m)) (cases_lt m n)
+
+-- to assert a formula has one outcome
+abbrev pub AssertsOnce : Type 0
+AssertsOnce = (formulas : Formulas) (n : ℕ) (before one other : Held) → Asserts formulas n before one →
+    Asserts formulas n before other → one ≡ other
 
 -- the disjunction, the place and the part of a split
 record AreSameSplits (n m place k part q : ℕ) : Type 0 where
@@ -173,7 +178,7 @@ none_over path fault over = absurd (not_nil over.entered over.next over.rest ove
     not_nil [] next rest e = cc
     not_nil (first ∷ entered) next rest e = cc
 
-module _ (once : AssertsOnce) (new_once : NewOnce) (rounds : ℕ) where
+module _ (once : AssertsOnce) (new_once : NewOnce) (laws : InstanceLaws) (rounds : ℕ) where
   -- the same closed branch
   one_closed : (path : Path) (closed other : Branch) → Closes path.formulas path.branch closed →
       Closes path.formulas path.branch other → closed ≡ other
@@ -374,9 +379,9 @@ module _ (once : AssertsOnce) (new_once : NewOnce) (rounds : ℕ) where
   goes_refused {path} {fault} sound over less stops settles = none_over path fault stops
   goes_refused sound over less stops (spends spent) = absurd (omega (arith, spent, less))
   goes_refused {path} {fault} sound over less stops (enters {instance} {instances} less' all after) =
-      absurd (all_not_stopped once sound over all (stops_of (instance ∷ instances) path fault stops))
+      absurd (all_not_stopped laws sound over all (stops_of (instance ∷ instances) path fault stops))
   goes_refused {path} {fault} sound over less stops (refuses {instances} {fault = other} less' stops') =
-      ap refused (stops_all_once once sound over (stops_of instances path fault stops)
+      ap refused (stops_all_once laws sound over (stops_of instances path fault stops)
       (stops_of instances path other stops'))
 
   -- all new instances are entered, and it goes on from there
@@ -387,9 +392,9 @@ module _ (once : AssertsOnce) (new_once : NewOnce) (rounds : ℕ) where
   goes_on sound over less all (spends spent) = absurd (omega (arith, spent, less))
   goes_on {other} {instance} {instances} sound over less all (enters less' all' after) =
       subst (λ (path : Path). Verdict rounds (after_round path (length (instance ∷ instances))) other)
-      (all_once once sound over all' all) after
+      (all_once laws sound over all' all) after
   goes_on {path} {instance} {instances} sound over less all (refuses {fault} less' stops) =
-      absurd (all_not_stopped once sound over all (stops_of (instance ∷ instances) path fault stops))
+      absurd (all_not_stopped laws sound over all (stops_of (instance ∷ instances) path fault stops))
 
   sound_closed : (path : Path) (closed : Branch) → IsSoundPath path → IsQuiet path.formulas path.branch closed →
       IsSoundPath (with_branch path closed)
@@ -434,7 +439,7 @@ module _ (once : AssertsOnce) (new_once : NewOnce) (rounds : ℕ) where
       let sound_here : IsSoundPath (with_branch path closed) =
       sound_closed path closed sound undecided.decided.quiet in
       let over = new_all path closed (instance ∷ instances) sound_here new in
-      one_verdict (all_sound sound_here over all) after
+      one_verdict (all_sound laws sound_here over all) after
       (goes_on sound_here over less all (of_undecided undecided new second))
   one_verdict sound (verdict.past_limit {path} {closed} {instances} undecided new less stops) second =
       let sound_here : IsSoundPath (with_branch path closed) =
@@ -443,6 +448,6 @@ module _ (once : AssertsOnce) (new_once : NewOnce) (rounds : ℕ) where
       (of_undecided undecided new second)
 
 -- from a start in order
-pub has_one_verdict : AssertsOnce → NewOnce → HasOneVerdict
-has_one_verdict once new_once rounds formulas now one other order first second =
-    one_verdict once new_once rounds (sound_start formulas now order) first second
+pub has_one_verdict : AssertsOnce → NewOnce → InstanceLaws → HasOneVerdict
+has_one_verdict once new_once laws rounds formulas now one other order first second =
+    one_verdict once new_once laws rounds (sound_start formulas now order) first second

@@ -1,7 +1,7 @@
 //! Laws of the search, each on a function that does nothing.
 ghost use Rattle.search_laws.specs.Laws.{HasOneVerdict, UnsatRefutes, SatSatisfies};
 
-use formula_assert::laws::asserts_law;
+use formula_assert::laws::{asserts_law, one_answer_law, tables_law};
 use match_store::laws::new_law;
 
 /// The search of what is held ends in one way.
@@ -9,6 +9,8 @@ pub fn one_verdict_law()
     ensures { HasOneVerdict }
 {
     asserts_law();
+    tables_law();
+    one_answer_law();
     new_law();
 }
 

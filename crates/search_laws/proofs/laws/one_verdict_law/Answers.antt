@@ -1,5 +1,11 @@
+use Rattle.search_laws.proofs.EntryOnce.{InstanceLaws}
 use Rattle.search_laws.proofs.OnceLemmas.{has_one_verdict}
 use Rattle.search_laws.proofs.laws.one_verdict_law.Goals as goal
 
 pub returns : goal.returns
-returns c = has_one_verdict c.asserts_law.ensures.once c.new_law.ensures
+returns c = has_one_verdict c.asserts_law.ensures.once c.new_law.ensures (record {
+  tables = c.tables_law.ensures.asserted_instance;
+  once = c.one_answer_law.ensures.once_instance;
+  not_both = c.one_answer_law.ensures.not_both_instance;
+  alike = c.one_answer_law.ensures.alike_instance;
+})
