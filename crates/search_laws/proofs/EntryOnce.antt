@@ -1,7 +1,7 @@
 -- Instances are entered in one way, or refused in one way; and what is sound stays so where they are entered.
-use Rattle.std.proofs.Common.{◌≡◌, ◌≢◌, ℕ, zero, suc, ◌<◌, ◌≤◌, List, [], ◌∷◌, ◌++◌, length, map, slice_get, Some, All}
+use Rattle.std.proofs.Common.{◌≡◌, ◌≢◌, ℕ, zero, suc, ◌<◌, ◌≤◌, List, [], ◌∷◌, ◌++◌, length, map, slice_get, Some}
 use Rattle.std.proofs.Common.{Contains, refl, sym, ap, subst, ◌∙◌, append-nil, append_assoc, arith}
-use Rattle.std.proofs.lemmas.Option.{none-some, same_Some}
+use Rattle.std.proofs.lemmas.Option.{none-some}
 use Rattle.std.proofs.lemmas.List.{length-append, map-append}
 use Rattle.std.proofs.lemmas.List.Elements.{All-weaker}
 use Rattle.graph_terms.specs.declared.term_row.TermRow.{TermRow}
@@ -22,10 +22,9 @@ use Rattle.formula_table.specs.Entry.{StopsEntry}
 use Rattle.formula_table.specs.Formulas.{Formulas, NodesStand}
 use Rattle.formula_table.specs.Instance.{HasVariables}
 use Rattle.formula_assert.specs.Held.{Held, held}
-use Rattle.formula_assert.specs.Asserts.{Asserts}
 use Rattle.formula_assert.specs.Exactly.{operations_in}
 use Rattle.formula_assert.specs.Assertions.{Assertions}
-use Rattle.formula_assert.specs.AssertFormula.{StopsOver, KeepsFormulas}
+use Rattle.formula_assert.specs.AssertFormula.{StopsOver}
 use Rattle.formula_assert.specs.AssertInstance.{TermsStand, AssertsInstance, StopsAssertInstance}
 use Rattle.formula_assert.specs.Tables.{AreTables}
 use Rattle.search_laws.specs.Path.{Path}

@@ -17,14 +17,14 @@ use Rattle.search_laws.specs.Branch.{Branch, with_held, with_struck, live_in}
 use Rattle.search_laws.specs.Closing.{IsAssertedOr, IsLeftOver, IsUnit, IsFirstUnit, Closes, IsOpen, IsSplit}
 use Rattle.search_laws.specs.Closing.{HasNoOpen}
 use Rattle.search_laws.specs.Closing as closing
-use Rattle.search_laws.specs.Path.{Path, first_path, with_branch, after_round}
+use Rattle.search_laws.specs.Path.{Path, with_branch, after_round}
 use Rattle.search_laws.specs.Rounds.{graph_in, AreNewIn, EntersAll, Overflows}
 use Rattle.search_laws.specs.Verdict.{Ending, unsat, sat, settled, rounds_spent, refused, Verdict}
 use Rattle.search_laws.specs.Verdict.{IsQuiet, IsDecided, IsUndecided}
 use Rattle.search_laws.specs.Verdict as verdict
 use Rattle.search_laws.specs.Laws.{HasOneVerdict}
 use Rattle.search_laws.proofs.FormulaLemmas.{one_node, same_ors}
-use Rattle.search_laws.proofs.SoundLemmas.{IsSound, IsSoundPath, sound_start, sound_asserts, sound_struck}
+use Rattle.search_laws.proofs.SoundLemmas.{IsSoundPath, sound_start, sound_asserts, sound_struck}
 use Rattle.search_laws.proofs.SoundLemmas.{sound_closes, new_over}
 use Rattle.search_laws.proofs.EntryOnce.{InstanceLaws, AreOverPath, all_once, all_not_stopped, stops_of}
 use Rattle.search_laws.proofs.EntryOnce.{stops_all_once, all_sound}
@@ -287,8 +287,11 @@ module _ (once : AssertsOnce) (new_once : NewOnce) (laws : InstanceLaws) (rounds
   of_half {closed} half (verdict.conflict {path} {closed = closed'} closes c) =
       conflict_quiet path closed' closed closes c half.quiet
   of_half {closed} {next} {n} {place} {part} half (verdict.first_half {path} {closed = closed'} {next = next'} {n = m}
-      {place = k} {part = q} quiet split asserts after not) = inl (record {
-        after = moved path closed next n place part half closed' next' m k q (record { quiet = quiet; split = split; asserts = asserts }) after;
+      {place = k} {part = q} quiet split asserts after not) =
+      let also : IsHalf path.formulas path.branch closed' next' m k q =
+      record { quiet = quiet; split = split; asserts = asserts } in
+      inl (record {
+        after = moved path closed next n place part half closed' next' m k q also after;
         not = not;
       })
   of_half {closed} {next} {n} {place} {part} half (verdict.second_half {path} {closed = closed'} {next = next'} {n = m}

@@ -1,4 +1,3 @@
-use Rattle.search_laws.proofs.EntryOnce.{InstanceLaws}
 use Rattle.search_laws.proofs.OnceLemmas.{has_one_verdict}
 use Rattle.search_laws.proofs.laws.one_verdict_law.Goals as goal
 
