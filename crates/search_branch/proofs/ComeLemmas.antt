@@ -27,7 +27,8 @@ use Rattle.search_watch.specs.Back.{CanGoBack}
 use Rattle.search_watch.specs.Service.{Service, Serves, ServesNow, HasClash, FindsChanges, service, where_stands}
 use Rattle.search_watch.specs.Follow.{IsBehind}
 use Rattle.search_branch.specs.declared.branch_values.BranchValues.{BranchValues}
-use Rattle.search_branch.specs.Given.{IsGivenBy, IsLeafTruth, AreForallValues, forall_truth, ends_of, kind_in, parts_in}
+use Rattle.search_branch.specs.Given.{IsGivenBy, IsLeafTruth, AreForallValues, forall_truth}
+use Rattle.search_branch.specs.Given.{ends_of, kind_in, parts_in}
 use Rattle.search_branch.specs.Right.{AreCurrent, AreValuesOf}
 use Rattle.search_branch.specs.Levels.{IsLevelOver}
 use Rattle.search_branch.specs.Told.{AreToldBut, AreAsserted, TellsAll, HasCome}

@@ -20,7 +20,9 @@ keeps_more standing nodes n first second third keeps tells = record {
   kinds = tells.sets.kinds ∙ keeps.kinds;
   parts = tells.sets.parts ∙ keeps.parts;
   foralls = λ m forall has. elim (cases_eq m n) [
-    | inl same ↦ ap third.leaf same ∙ tells.sets.here ∙ tells.stays forall (subst (λ (k : ℕ). HasNode nodes k (Forall forall)) same has)
+    | inl same ↦
+        ap third.leaf same ∙ tells.sets.here
+        ∙ tells.stays forall (subst (λ (k : ℕ). HasNode nodes k (Forall forall)) same has)
         ∙ ap second.leaf (sym same) ∙ keeps.foralls m forall has
     | inr other ↦ tells.sets.others m other ∙ keeps.foralls m forall has
   ];

@@ -1,8 +1,8 @@
 //! What came is told to the values of nodes.
 ghost use Rattle.std.specs.Prelude.{◌≡◌, ℕ, ◌<◌, ◌≤◌, length, map, take, All, Contains, OnOk};
+ghost use Rattle.search_values.specs.Given.{kind_of};
 ghost use Rattle.search_values.specs.Kept.{given_of};
 ghost use Rattle.search_watch.specs.Service.{ServesNow};
-ghost use Rattle.search_values.specs.Given.{kind_of};
 ghost use Rattle.search_branch.specs.Given.{kind_in, AreForallValues};
 ghost use Rattle.formula_truth.specs.declared.truth.Truth.TheVariants.{Unset};
 ghost use Rattle.search_branch.specs.Built.{AreFresh};
@@ -77,9 +77,9 @@ fn tell_forall(values: &mut NodeValues, node: &Node, n: u32) -> Result<(), Alloc
             values.set_leaf(n, Truth::Yes)?;
             return Ok(());
         }
-        Node::Equal { .. } | Node::Atom { .. } | Node::And { .. } | Node::Or { .. } => return Ok(
-            (),
-        ),
+        Node::Equal { .. } | Node::Atom { .. } | Node::And { .. } | Node::Or { .. } => {
+            return Ok(());
+        }
     }
 }
 
