@@ -9,3 +9,5 @@ pub mod Marks
 pub mod EnterFault
 pub mod Entry
 pub mod EntryInside
+pub mod Instance
+pub mod EntryLaw

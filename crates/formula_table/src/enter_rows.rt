@@ -10,7 +10,8 @@ ghost use Rattle.formula_table.specs.Entry.{entered_row, RowsGrow};
 ghost use Rattle.formula_table.specs.EntryInside.{NumbersStand, StopsTerm, RowGrows, StopsRow, StopsRows};
 
 use crate::enter_fault::EnterFault;
-use formula_draft::{DraftRow, Formula};
+use crate::row_list::RowList;
+use formula_draft::DraftRow;
 use graph_terms::{Memory, TermEntry};
 use std::alloc::Global;
 
@@ -54,28 +55,26 @@ fn add_term<E: TermEntry>(
 }
 
 /// Enters the next row, where it is reached. Gives its term: of a variable the one of the tuple.
-fn enter_row<E: TermEntry>(
+fn enter_row<E: TermEntry, F: RowList>(
     alloc: Global,
     terms: &mut E,
-    formula: &Formula,
+    formula: &F,
     tuple: &[u32],
     reached: bool,
     numbers: &[u32],
 ) -> Result<u32, EnterFault>
-    requires formula { IsFormulaOver (length tuple.now) formula.now }
+    requires formula { IsFormulaOver (length tuple.now) (F.formula formula.now) }
     requires tuple { All (λ term. term < length (E.rows terms.old)) tuple.now }
-    requires next { length numbers.now < length formula.now.rows }
-    requires reached { IsTrue reached ↔ ReachesRow formula.now.rows formula.now.nodes formula.now.root (length numbers.now) }
-    requires stand { NumbersStand formula.now (length (E.rows terms.old)) numbers.now }
-    ensures ok { IfOk result (RowGrows (E.grown terms.old terms.new) formula.now tuple.now (E.rows terms.old) (E.limit terms.old) numbers.now) }
-    ensures fault { IfErr result (StopsRow (terms.new ≡ terms.old) (E.refused terms.old terms.new) formula.now tuple.now (E.rows terms.old) (E.limit terms.old) numbers.now) }
+    requires next { length numbers.now < length (F.formula formula.now).rows }
+    requires reached { IsTrue reached ↔ ReachesRow (F.formula formula.now).rows (F.formula formula.now).nodes (F.formula formula.now).root (length numbers.now) }
+    requires stand { NumbersStand (F.formula formula.now) (length (E.rows terms.old)) numbers.now }
+    ensures ok { IfOk result (RowGrows (E.grown terms.old terms.new) (F.formula formula.now) tuple.now (E.rows terms.old) (E.limit terms.old) numbers.now) }
+    ensures fault { IfErr result (StopsRow (terms.new ≡ terms.old) (E.refused terms.old terms.new) (F.formula formula.now) tuple.now (E.rows terms.old) (E.limit terms.old) numbers.now) }
 {
     if !reached {
         return Ok(0);
     }
-    let count = formula.rows();
-    prove!(numbers.len() < count as usize);
-    match formula.row_at(numbers.len() as u32) {
+    match formula.row(numbers.len()) {
         DraftRow::Var { index } => return Ok(tuple[*index as usize]),
         DraftRow::App { symbol, args } => {
             return add_term(alloc, terms, *symbol, args.as_slice(), numbers);
@@ -84,22 +83,22 @@ fn enter_row<E: TermEntry>(
 }
 
 /// Enters the reached rows over a tuple of terms, in order. Gives the term of each row, and 0 for a row that isn't reached.
-pub(crate) fn enter_rows<E: TermEntry>(
+pub(crate) fn enter_rows<E: TermEntry, F: RowList>(
     alloc: Global,
     terms: &mut E,
-    formula: &Formula,
+    formula: &F,
     tuple: &[u32],
     reached: &[bool],
 ) -> Result<Vec<u32>, EnterFault>
-    requires formula { IsFormulaOver (length tuple.now) formula.now }
+    requires formula { IsFormulaOver (length tuple.now) (F.formula formula.now) }
     requires tuple { All (λ term. term < length (E.rows terms.old)) tuple.now }
-    requires reached { AreMarks (length formula.now.rows) (ReachesRow formula.now.rows formula.now.nodes formula.now.root) reached.now }
-    ensures ok { IfOk result (λ numbers. RowsGrow (E.grown terms.old terms.new) formula.now tuple.now (E.rows terms.old) (E.limit terms.old) numbers.items) }
-    ensures fault { IfErr result (StopsRows (E.grown terms.old terms.new) (λ added. (middle : E) × E.grown terms.old middle added × E.refused middle terms.new) formula.now tuple.now (E.rows terms.old) (E.limit terms.old)) }
+    requires reached { AreMarks (length (F.formula formula.now).rows) (ReachesRow (F.formula formula.now).rows (F.formula formula.now).nodes (F.formula formula.now).root) reached.now }
+    ensures ok { IfOk result (λ numbers. RowsGrow (E.grown terms.old terms.new) (F.formula formula.now) tuple.now (E.rows terms.old) (E.limit terms.old) numbers.items) }
+    ensures fault { IfErr result (StopsRows (E.grown terms.old terms.new) (λ added. (middle : E) × E.grown terms.old middle added × E.refused middle terms.new) (F.formula formula.now) tuple.now (E.rows terms.old) (E.limit terms.old)) }
 {
     let mut numbers = Vec::new(alloc);
-    for n in 0..formula.rows() {
-        let number = enter_row(alloc, terms, formula, tuple, reached[n as usize], &numbers)?;
+    for n in 0..formula.row_count() {
+        let number = enter_row(alloc, terms, formula, tuple, reached[n], &numbers)?;
         push_number(&mut numbers, number)?;
     }
     Ok(numbers)

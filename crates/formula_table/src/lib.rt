@@ -2,13 +2,16 @@
 #![tactic(auto)]
 
 mod body;
+mod enter_body;
 pub mod enter_fault;
 mod enter_foralls;
 mod enter_nodes;
 mod enter_rows;
 pub mod formula_table;
+pub mod laws;
 pub mod node;
 mod reached;
+mod row_list;
 pub mod table_forall;
 
 pub use body::Body;
