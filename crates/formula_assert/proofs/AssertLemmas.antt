@@ -1,27 +1,31 @@
 -- A formula that was entered, and its root.
-use Rattle.std.proofs.Common.{◌≡◌, ℕ, ◌<◌, ◌++◌, List, [], length, take, sym, ap, subst, ◌∙◌, append-nil}
+use Rattle.std.proofs.Common.{◌≡◌, ℕ, ◌<◌, ◌++◌, List, [], length, take, All, sym, ap, subst, ◌∙◌, append-nil}
 use Rattle.std.proofs.Math.Seq.{take-append_seam}
 use Rattle.std.proofs.lemmas.List.Elements.{All-nil}
 use Rattle.graph_terms.specs.declared.term_row.TermRow.{TermRow}
 use Rattle.graph_meaning.specs.Standing.{terms_of}
 use Rattle.graph_meaning.specs.State.{GraphState}
-use Rattle.formula_draft.specs.Draft.{Formula, IsFormula}
+use Rattle.formula_draft.specs.Draft.{Formula}
 use Rattle.formula_table.specs.declared.enter_fault.EnterFault.TheVariants.{Memory}
 use Rattle.formula_table.specs.Entry.{Enters, EntersRows}
-use Rattle.formula_table.proofs.BecomesLaws.{over_none}
+use Rattle.formula_table.specs.Body.{IsFormulaOver}
 use Rattle.formula_table.proofs.StandLaws.{stands_after}
 use Rattle.formula_table.specs.Formulas.{Formulas, GrowsTable, NodesStand, first_formulas}
 use Rattle.formula_assert.specs.declared.level.Level.{Level}
 use Rattle.match_graph.specs.GraphTerms.{with_terms}
 use Rattle.match_graph.specs.GraphTermsLaws.{terms-with_terms}
-use Rattle.formula_assert.specs.AssertFormula.{StopsAssert}
+use Rattle.formula_assert.specs.AssertFormula.{StopsOver}
 use Rattle.formula_assert.specs.Held.{held}
 use Rattle.formula_assert.specs.InLevel.{GrowsGraph, HoldsMore, KeepsLevels}
 use Rattle.formula_assert.specs.StackInside.{IsStackOf, assertions_with}
 use Rattle.formula_assert.proofs.Growth.{grows_both, grows_terms, terms_longer, NodesStand-more}
 use Rattle.formula_assert.proofs.StackLemmas.{grows_entered, grows_nothing, saved_same, stack_grown, stack_keeps, cut_back}
 
-module _ (formula : Formula) (is : IsFormula formula) (graph entered : GraphState) (table grown : Formulas) (limit root : ℕ) (enters : Enters (λ more. entered ≡ with_terms graph more) formula [] (terms_of graph.standing) limit table grown root) (stand : NodesStand (length (terms_of graph.standing)) table.nodes) where
+-- the terms of no tuple stand
+pub none_below : (graph : GraphState) → All (λ term. term < length (terms_of graph.standing)) []
+none_below graph = All-nil (λ term. term < length (terms_of graph.standing))
+
+module _ (formula : Formula) (tuple : List ℕ) (is : IsFormulaOver (length tuple) formula) (graph entered : GraphState) (below : All (λ term. term < length (terms_of graph.standing)) tuple) (table grown : Formulas) (limit root : ℕ) (enters : Enters (λ more. entered ≡ with_terms graph more) formula tuple (terms_of graph.standing) limit table grown root) (stand : NodesStand (length (terms_of graph.standing)) table.nodes) where
   entered_grows : GrowsGraph graph entered
   entered_grows = grows_terms graph entered enters.rows_grow.added enters.rows_grow.grew
 
@@ -30,14 +34,14 @@ module _ (formula : Formula) (is : IsFormula formula) (graph entered : GraphStat
 
   -- the root stands
   pub entered_root : root < length grown.nodes
-  entered_root = (stands_after (λ more. entered ≡ with_terms graph more) formula [] (over_none formula is) (terms_of graph.standing) (All-nil (λ term. term < length (terms_of graph.standing))) limit table grown root enters).root_stands
+  entered_root = (stands_after (λ more. entered ≡ with_terms graph more) formula tuple is (terms_of graph.standing) below limit table grown root enters).root_stands
 
   -- the nodes are over terms that stand
   pub entered_over : NodesStand (length (terms_of entered.standing)) grown.nodes
   entered_over =
       let rows : terms_of entered.standing ≡ terms_of graph.standing ++ enters.rows_grow.added = ap (λ (g : GraphState). terms_of g.standing) enters.rows_grow.grew ∙ terms-with_terms graph enters.rows_grow.added in
       subst (λ (list : List TermRow). NodesStand (length list) grown.nodes) (sym rows)
-      ((stands_after (λ more. entered ≡ with_terms graph more) formula [] (over_none formula is) (terms_of graph.standing) (All-nil (λ term. term < length (terms_of graph.standing))) limit table grown root enters).terms_stand stand)
+      ((stands_after (λ more. entered ≡ with_terms graph more) formula tuple is (terms_of graph.standing) below limit table grown root enters).terms_stand stand)
 
   module _ (after : GraphState) (asserted kept : List ℕ) (levels : List Level) (more : HoldsMore (held entered asserted) (held after kept)) (stack : IsStackOf graph table asserted levels) where
     all_grows : GrowsGraph graph after
@@ -85,13 +89,13 @@ module _ (formula : Formula) (is : IsFormula formula) (graph entered : GraphStat
       undone_keeps = stack_keeps graph back table cut asserted left [] levels stack back_grows table_same nothing_more
 
       -- and but for the terms all is as before
-      pub undone_stops : limit ≡ graph.limit → StopsAssert formula (assertions_with graph table asserted levels) (assertions_with back cut left levels) Memory
+      pub undone_stops : limit ≡ graph.limit → StopsOver formula tuple (assertions_with graph table asserted levels) (assertions_with back cut left levels) Memory
       undone_stops same_limit = (
         record {
           added = enters.rows_grow.added;
           terms = enters.terms;
           grew = back_is ∙ enters.rows_grow.grew;
-          enters = subst (λ (most : ℕ). EntersRows formula [] (terms_of graph.standing) most enters.rows_grow.added enters.terms) same_limit enters.rows_grow.enters;
+          enters = subst (λ (most : ℕ). EntersRows formula tuple (terms_of graph.standing) most enters.rows_grow.added enters.terms) same_limit enters.rows_grow.enters;
         },
         record { formulas_are = same_table; asserted_are = same_asserted; saved_are = saved_same graph back table cut asserted left [] levels stack back_grows table_same nothing_more },
       )

@@ -13,7 +13,8 @@ use Rattle.formula_table.specs.Formulas.{Formulas, GrowsTable}
 use Rattle.match_graph.specs.GraphTerms.{adding, with_terms}
 use Rattle.formula_assert.specs.Held.{held}
 use Rattle.formula_assert.specs.Assertions.{Saved, Assertions, no_assertions, pushed, popped, restored}
-use Rattle.formula_assert.specs.AssertFormula.{AssertsFormula, StopsAssert, KeepsFormulas}
+use Rattle.formula_assert.specs.AssertFormula.{AssertsOver, AssertsFormula, StopsOver, StopsAssert, KeepsFormulas}
+use Rattle.formula_assert.specs.AssertInstance.{AssertsInstance, StopsAssertInstance}
 use Rattle.formula_assert.specs.Exactly.{operations_in, HoldsExactly, WereExact, AreExact}
 use Rattle.formula_assert.specs.Tables.{AreTables}
 use Rattle.formula_assert.proofs.AssertsLaws.{asserts_terms}
@@ -94,9 +95,9 @@ exact_terms formulas graph later asserted rows grew exact =
     (no_links rows) exact
 
 -- when a formula is asserted
-pub exact_formula : (formula : Formula) (before after : Assertions) → AreTables before → AreExact before →
-    AssertsFormula formula before after → AreExact after
-exact_formula formula before after tables are asserts =
+exact_over : (formula : Formula) (tuple : List ℕ) (before after : Assertions) → AreTables before → AreExact before →
+    AssertsOver formula tuple before after → AreExact after
+exact_over formula tuple before after tables are asserts =
     let added = asserts.enters.rows_grow.added in
     let grew : asserts.entered ≡ with_terms before.graph added = asserts.enters.rows_grow.grew in
     let table : GrowsTable before.formulas after.formulas = grows_entered formula asserts.enters.terms before.formulas
@@ -128,11 +129,31 @@ only_terms before after rows grew keeps are = record {
 }
 
 -- and when one is refused
+exact_stopped_over : (formula : Formula) (tuple : List ℕ) (before after : Assertions) (fault : EnterFault) → AreExact before →
+    StopsOver formula tuple before after fault → AreExact after
+exact_stopped_over formula tuple before after TermsFull are stops =
+    only_terms before after stops.0.added stops.0.grew stops.1 are
+exact_stopped_over formula tuple before after NodesFull are stops =
+    only_terms before after stops.0.rows_grow.added stops.0.rows_grow.grew stops.1 are
+exact_stopped_over formula tuple before after Memory are stops =
+    only_terms before after stops.0.added stops.0.grew stops.1 are
+
+-- of a formula, over no tuple
+pub exact_formula : (formula : Formula) (before after : Assertions) → AreTables before → AreExact before →
+    AssertsFormula formula before after → AreExact after
+exact_formula formula before after tables are asserts = exact_over formula [] before after tables are asserts
+
 pub exact_stopped : (formula : Formula) (before after : Assertions) (fault : EnterFault) → AreExact before →
     StopsAssert formula before after fault → AreExact after
-exact_stopped formula before after TermsFull are stops =
-    only_terms before after stops.0.added stops.0.grew stops.1 are
-exact_stopped formula before after NodesFull are stops =
-    only_terms before after stops.0.rows_grow.added stops.0.rows_grow.grew stops.1 are
-exact_stopped formula before after Memory are stops =
-    only_terms before after stops.0.added stops.0.grew stops.1 are
+exact_stopped formula before after fault are stops = exact_stopped_over formula [] before after fault are stops
+
+-- of an instance of a forall
+pub exact_instance : (forall : ℕ) (tuple : List ℕ) (before after : Assertions) → AreTables before →
+    AreExact before → AssertsInstance forall tuple before after → AreExact after
+exact_instance forall tuple before after tables are asserts =
+    exact_over asserts.quantified.body tuple before after tables are asserts.asserts_body
+
+pub exact_stopped_instance : (forall : ℕ) (tuple : List ℕ) (before after : Assertions) (fault : EnterFault) →
+    AreExact before → StopsAssertInstance forall tuple before after fault → AreExact after
+exact_stopped_instance forall tuple before after fault are stops =
+    exact_stopped_over stops.quantified.body tuple before after fault are stops.stops_body

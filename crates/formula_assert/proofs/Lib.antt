@@ -7,6 +7,8 @@ pub mod WorkLemmas
 pub mod OperationLemmas
 pub mod StackLemmas
 pub mod AssertLemmas
+pub mod LevelLemmas
+pub mod InstanceLemmas
 pub mod MarkLemmas
 pub mod EnteredLemmas
 pub mod ExactLemmas

@@ -1,9 +1,8 @@
 -- What stands stays made of tables, and over tables a formula is asserted in one way, and refused in one way but for
 -- want of memory.
-use Rattle.std.proofs.Common.{◌≡◌, ◌≢◌, ℕ, ◌<◌, ◌++◌, List, [], ◌∷◌, length, All, refl, sym, ap, ap₂, subst, ◌∙◌, append-nil, arith}
+use Rattle.std.proofs.Common.{◌≡◌, ◌≢◌, ℕ, ◌<◌, ◌++◌, List, [], ◌∷◌, length, slice_get, Some, refl, sym, ap, ap₂, subst, ◌∙◌, append-nil, arith}
 use Rattle.std.specs.List.{before_last}
-use Rattle.std.proofs.lemmas.List.Elements.{All-nil}
-use Rattle.std.proofs.lemmas.Option.{none-some}
+use Rattle.std.proofs.lemmas.Option.{none-some, same_Some}
 use Rattle.graph_meaning.specs.declared.done.Done.{Done}
 use Rattle.graph_terms.specs.declared.term_row.TermRow.{TermRow}
 use Rattle.graph_meaning.specs.declared.op.Op.TheVariants.{Push}
@@ -28,7 +27,12 @@ use Rattle.formula_assert.specs.Tables.{WereTables, AreTables}
 use Rattle.formula_assert.specs.Held.{Held, held}
 use Rattle.formula_assert.specs.Asserts.{Asserts}
 use Rattle.formula_assert.specs.Assertions.{Saved, Assertions, held_of, no_assertions, pushed, popped, restored}
-use Rattle.formula_assert.specs.AssertFormula.{AssertsFormula, StopsAssert, KeepsFormulas}
+use Rattle.formula_assert.specs.AssertFormula.{AssertsOver, AssertsFormula, StopsOver, StopsAssert, KeepsFormulas}
+use Rattle.formula_assert.specs.AssertInstance.{TermsStand, AssertsInstance, StopsAssertInstance}
+use Rattle.formula_assert.proofs.AssertLemmas.{none_below}
+use Rattle.formula_table.specs.Body.{IsFormulaOver}
+use Rattle.formula_table.specs.Instance.{HasVariables}
+use Rattle.formula_table.specs.declared.table_forall.TableForall.{TableForall}
 use Rattle.formula_assert.proofs.AssertsLaws.{asserts_once, asserts_terms}
 use Rattle.formula_assert.specs.Stands.{IsTableOver, AreAssertions, AreSaved}
 
@@ -88,10 +92,6 @@ tables_restored now (level ∷ saved) are were = record { terms = were.0; formul
 pub tables_popped : (now : Assertions) → AreTables now → AreTables (popped now)
 tables_popped now are = tables_restored now now.saved are are.saved
 
--- the terms of no tuple stand
-none_below : (graph : GraphState) → All (λ term. term < length (terms_of graph.standing)) []
-none_below graph = All-nil (λ term. term < length (terms_of graph.standing))
-
 -- terms that a graph gains come after what stood before the last level
 last-with_terms : (graph : GraphState) (rows : List TermRow) →
     before_last is_push (with_terms graph rows).standing ≡ before_last is_push graph.standing
@@ -101,13 +101,13 @@ last-with_terms graph (row ∷ rows) =
     ∙ before_last-miss is_push graph.standing (record { serial = graph.done; op = adding row }) refl
 
 -- they are when a formula is asserted
-pub tables_asserted : (formula : Formula) (before after : Assertions) → IsFormula formula → AreTables before →
-    AssertsFormula formula before after → AreTables after
-tables_asserted formula before after is are asserts =
+pub tables_over : (formula : Formula) (tuple : List ℕ) (before after : Assertions) → IsFormulaOver (length tuple) formula → TermsStand before tuple → AreTables before →
+    AssertsOver formula tuple before after → AreTables after
+tables_over formula tuple before after is below are asserts =
     let added = asserts.enters.rows_grow.added in
     let grew : asserts.entered ≡ with_terms before.graph added = asserts.enters.rows_grow.grew in
-    let all = stands_after (λ more. asserts.entered ≡ with_terms before.graph more) formula [] (over_none formula is)
-    (terms_of before.graph.standing) (none_below before.graph) before.graph.limit before.formulas after.formulas asserts.root asserts.enters
+    let all = stands_after (λ more. asserts.entered ≡ with_terms before.graph more) formula tuple is
+    (terms_of before.graph.standing) below before.graph.limit before.formulas after.formulas asserts.root asserts.enters
     in
     let kept = asserts_terms after.formulas asserts.asserts in
     let terms : terms_of after.graph.standing ≡ terms_of before.graph.standing ++ added = kept.terms
@@ -151,11 +151,11 @@ same_all one other holds formulas saved =
     ∙ ap (all_of (held_of other) other.formulas) saved
 
 -- a formula is asserted in one way
-pub asserts_formula_once : (formula : Formula) (before one other : Assertions) → IsFormula formula →
-    AreTables before → AssertsFormula formula before one → AssertsFormula formula before other → one ≡ other
-asserts_formula_once formula before one other is are first second =
-    let entry = enters_once-into (with_terms before.graph) first.entered second.entered formula [] (over_none formula is)
-    (terms_of before.graph.standing) (none_below before.graph) are.terms before.graph.limit before.formulas are.formulas.table one.formulas
+pub over_once : (formula : Formula) (tuple : List ℕ) (before one other : Assertions) → IsFormulaOver (length tuple) formula →
+    TermsStand before tuple → AreTables before → AssertsOver formula tuple before one → AssertsOver formula tuple before other → one ≡ other
+over_once formula tuple before one other is below are first second =
+    let entry = enters_once-into (with_terms before.graph) first.entered second.entered formula tuple is
+    (terms_of before.graph.standing) below are.terms before.graph.limit before.formulas are.formulas.table one.formulas
     other.formulas first.root second.root first.enters second.enters in
     let moved : Asserts one.formulas first.root (held first.entered before.asserted) (held_of other) =
     subst (λ (table : Formulas). Asserts table first.root (held first.entered before.asserted) (held_of other))
@@ -166,41 +166,41 @@ asserts_formula_once formula before one other is are first second =
     same_all one other (asserts_once one.formulas first.asserts moved) entry.1 (first.saved_is ∙ sym second.saved_is)
 
 -- and then there was room for its terms
-pub full_terms_not_asserted : (formula : Formula) (before one other : Assertions) → IsFormula formula →
-    AreTables before → AssertsFormula formula before one → StopsAssert formula before other TermsFull → ⊥
-full_terms_not_asserted formula before one other is are asserts stops =
+pub full_terms_not_asserted : (formula : Formula) (tuple : List ℕ) (before one other : Assertions) → IsFormulaOver (length tuple) formula →
+    TermsStand before tuple → AreTables before → AssertsOver formula tuple before one → StopsOver formula tuple before other TermsFull → ⊥
+full_terms_not_asserted formula tuple before one other is below are asserts stops =
     full_terms_not_entered (λ more. other.graph ≡ with_terms before.graph more) (λ more. asserts.entered
-    ≡ with_terms before.graph more) formula [] (over_none formula is) (terms_of before.graph.standing)
-    (none_below before.graph) are.terms before.graph.limit
+    ≡ with_terms before.graph more) formula tuple is (terms_of before.graph.standing)
+    below are.terms before.graph.limit
     before.formulas are.formulas.table one.formulas asserts.root stops.0 asserts.enters
 
 -- and for its nodes
-pub lacking_nodes_not_asserted : (formula : Formula) (before one other : Assertions) → IsFormula formula →
-    AreTables before → AssertsFormula formula before one → StopsAssert formula before other NodesFull → ⊥
-lacking_nodes_not_asserted formula before one other is are asserts stops =
+pub lacking_nodes_not_asserted : (formula : Formula) (tuple : List ℕ) (before one other : Assertions) → IsFormulaOver (length tuple) formula →
+    TermsStand before tuple → AreTables before → AssertsOver formula tuple before one → StopsOver formula tuple before other NodesFull → ⊥
+lacking_nodes_not_asserted formula tuple before one other is below are asserts stops =
     lacking_nodes_not_entered (λ more. other.graph ≡ with_terms before.graph more) (λ more. asserts.entered
-    ≡ with_terms before.graph more) formula [] (over_none formula is) (terms_of before.graph.standing)
-    (none_below before.graph) are.terms before.graph.limit
+    ≡ with_terms before.graph more) formula tuple is (terms_of before.graph.standing)
+    below are.terms before.graph.limit
     before.formulas are.formulas.table one.formulas asserts.root stops.0 asserts.enters
 
 -- where there is no room for its terms, it does not come to its nodes
-pub full_terms_not_lacking_nodes : (formula : Formula) (before one other : Assertions) → IsFormula formula →
-    AreTables before → StopsAssert formula before one TermsFull → StopsAssert formula before other NodesFull → ⊥
-full_terms_not_lacking_nodes formula before one other is are first second =
+pub full_terms_not_lacking_nodes : (formula : Formula) (tuple : List ℕ) (before one other : Assertions) → IsFormulaOver (length tuple) formula →
+    TermsStand before tuple → AreTables before → StopsOver formula tuple before one TermsFull → StopsOver formula tuple before other NodesFull → ⊥
+full_terms_not_lacking_nodes formula tuple before one other is below are first second =
     full_terms_not_lacking (λ more. one.graph ≡ with_terms before.graph more) (λ more. other.graph
-    ≡ with_terms before.graph more) formula [] (over_none formula is) (terms_of before.graph.standing)
-    (none_below before.graph) are.terms before.graph.limit
+    ≡ with_terms before.graph more) formula tuple is (terms_of before.graph.standing)
+    below are.terms before.graph.limit
     before.formulas are.formulas.table first.0 second.0
 
 -- a formula that is asserted is not refused, but for want of memory
-pub asserted_not_stopped : (formula : Formula) (before one other : Assertions) (fault : EnterFault) →
-    IsFormula formula → AreTables before → (fault ≢ Memory) → AssertsFormula formula before one →
-    StopsAssert formula before other fault → ⊥
-asserted_not_stopped formula before one other TermsFull is are not asserts stops = full_terms_not_asserted formula
-    before one other is are asserts stops
-asserted_not_stopped formula before one other NodesFull is are not asserts stops = lacking_nodes_not_asserted formula
-    before one other is are asserts stops
-asserted_not_stopped formula before one other Memory is are not asserts stops = not refl
+pub over_not_stopped : (formula : Formula) (tuple : List ℕ) (before one other : Assertions) (fault : EnterFault) →
+    IsFormulaOver (length tuple) formula → TermsStand before tuple → AreTables before → (fault ≢ Memory) → AssertsOver formula tuple before one →
+    StopsOver formula tuple before other fault → ⊥
+over_not_stopped formula tuple before one other TermsFull is below are not asserts stops = full_terms_not_asserted formula tuple
+    before one other is below are asserts stops
+over_not_stopped formula tuple before one other NodesFull is below are not asserts stops = lacking_nodes_not_asserted formula tuple
+    before one other is below are asserts stops
+over_not_stopped formula tuple before one other Memory is below are not asserts stops = not refl
 
 kept_alike : (before one other : Assertions) → one.graph ≡ other.graph → KeepsFormulas before one →
     KeepsFormulas before other → one ≡ other
@@ -209,25 +209,92 @@ kept_alike before one other graph first second =
     ∙ sym second.formulas_are) (first.saved_are ∙ sym second.saved_are)
 
 -- a formula is refused in one way, but for want of memory
+pub over_stopped_once : (formula : Formula) (tuple : List ℕ) (before one other : Assertions) (fault also : EnterFault) → IsFormulaOver (length tuple) formula →
+    TermsStand before tuple → AreTables before → (fault ≢ Memory) → (also ≢ Memory) → StopsOver formula tuple before one fault →
+    StopsOver formula tuple before other also → (fault ≡ also) × (one ≡ other)
+over_stopped_once formula tuple before one other TermsFull TermsFull is below are not so first second =
+    let both = full_terms_once (λ more. one.graph ≡ with_terms before.graph more) (λ more. other.graph
+    ≡ with_terms before.graph more) formula tuple is (terms_of before.graph.standing)
+    below are.terms before.graph.limit
+    before.formulas are.formulas.table first.0 second.0 in
+    (refl, kept_alike before one other (both.grew ∙ sym both.also) first.1 second.1)
+over_stopped_once formula tuple before one other NodesFull NodesFull is below are not so first second =
+    let both = lacking_nodes_once (λ more. one.graph ≡ with_terms before.graph more) (λ more. other.graph
+    ≡ with_terms before.graph more) formula tuple is (terms_of before.graph.standing)
+    below are.terms before.graph.limit
+    before.formulas are.formulas.table first.0 second.0 in
+    (refl, kept_alike before one other (both.grew ∙ sym both.also) first.1 second.1)
+over_stopped_once formula tuple before one other TermsFull NodesFull is below are not so first second = absurd
+    (full_terms_not_lacking_nodes formula tuple before one other is below are first second)
+over_stopped_once formula tuple before one other NodesFull TermsFull is below are not so first second = absurd
+    (full_terms_not_lacking_nodes formula tuple before other one is below are second first)
+over_stopped_once formula tuple before one other TermsFull Memory is below are not so first second = absurd (so refl)
+over_stopped_once formula tuple before one other NodesFull Memory is below are not so first second = absurd (so refl)
+over_stopped_once formula tuple before one other Memory also is below are not so first second = absurd (not refl)
+
+-- of a formula, over no tuple
+pub tables_asserted : (formula : Formula) (before after : Assertions) → IsFormula formula → AreTables before →
+    AssertsFormula formula before after → AreTables after
+tables_asserted formula before after is are asserts =
+    tables_over formula [] before after (over_none formula is) (none_below before.graph) are asserts
+
+pub asserts_formula_once : (formula : Formula) (before one other : Assertions) → IsFormula formula →
+    AreTables before → AssertsFormula formula before one → AssertsFormula formula before other → one ≡ other
+asserts_formula_once formula before one other is are first second =
+    over_once formula [] before one other (over_none formula is) (none_below before.graph) are first second
+
+pub asserted_not_stopped : (formula : Formula) (before one other : Assertions) (fault : EnterFault) →
+    IsFormula formula → AreTables before → (fault ≢ Memory) → AssertsFormula formula before one →
+    StopsAssert formula before other fault → ⊥
+asserted_not_stopped formula before one other fault is are not asserts stops = over_not_stopped formula [] before one
+    other fault (over_none formula is) (none_below before.graph) are not asserts stops
+
 pub stopped_once : (formula : Formula) (before one other : Assertions) (fault also : EnterFault) → IsFormula formula →
     AreTables before → (fault ≢ Memory) → (also ≢ Memory) → StopsAssert formula before one fault →
     StopsAssert formula before other also → (fault ≡ also) × (one ≡ other)
-stopped_once formula before one other TermsFull TermsFull is are not so first second =
-    let both = full_terms_once (λ more. one.graph ≡ with_terms before.graph more) (λ more. other.graph
-    ≡ with_terms before.graph more) formula [] (over_none formula is) (terms_of before.graph.standing)
-    (none_below before.graph) are.terms before.graph.limit
-    before.formulas are.formulas.table first.0 second.0 in
-    (refl, kept_alike before one other (both.grew ∙ sym both.also) first.1 second.1)
-stopped_once formula before one other NodesFull NodesFull is are not so first second =
-    let both = lacking_nodes_once (λ more. one.graph ≡ with_terms before.graph more) (λ more. other.graph
-    ≡ with_terms before.graph more) formula [] (over_none formula is) (terms_of before.graph.standing)
-    (none_below before.graph) are.terms before.graph.limit
-    before.formulas are.formulas.table first.0 second.0 in
-    (refl, kept_alike before one other (both.grew ∙ sym both.also) first.1 second.1)
-stopped_once formula before one other TermsFull NodesFull is are not so first second = absurd
-    (full_terms_not_lacking_nodes formula before one other is are first second)
-stopped_once formula before one other NodesFull TermsFull is are not so first second = absurd
-    (full_terms_not_lacking_nodes formula before other one is are second first)
-stopped_once formula before one other TermsFull Memory is are not so first second = absurd (so refl)
-stopped_once formula before one other NodesFull Memory is are not so first second = absurd (so refl)
-stopped_once formula before one other Memory also is are not so first second = absurd (not refl)
+stopped_once formula before one other fault also is are not so first second = over_stopped_once formula [] before one
+    other fault also (over_none formula is) (none_below before.graph) are not so first second
+
+-- of an instance of a forall
+module _ (forall : ℕ) (tuple : List ℕ) (before : Assertions) (has : HasVariables before.formulas forall (length tuple))
+    (stand : TermsStand before tuple) (are : AreTables before) where
+  -- its body is a formula over the tuple
+  body_over : (quantified : TableForall) → slice_get before.formulas.foralls forall ≡ Some quantified →
+      IsFormulaOver (length tuple) quantified.body
+  body_over quantified at =
+      let same : has.0 ≡ quantified = same_Some has.0 quantified (sym has.1 ∙ at) in
+      subst (λ (count : ℕ). IsFormulaOver count quantified.body)
+      (ap (λ (q : TableForall). q.variables) (sym same) ∙ has.2)
+      (are.formulas.table.foralls forall quantified at).body_over
+
+  pub tables_instance : (after : Assertions) → AssertsInstance forall tuple before after → AreTables after
+  tables_instance after asserts = tables_over asserts.quantified.body tuple before after
+      (body_over asserts.quantified asserts.is_forall) stand are asserts.asserts_body
+
+  pub instance_once : (one other : Assertions) → AssertsInstance forall tuple before one →
+      AssertsInstance forall tuple before other → one ≡ other
+  instance_once one other first second =
+      let same : second.quantified ≡ first.quantified = same_Some second.quantified first.quantified
+      (sym second.is_forall ∙ first.is_forall) in
+      over_once first.quantified.body tuple before one other (body_over first.quantified first.is_forall) stand are
+      first.asserts_body
+      (subst (λ (q : TableForall). AssertsOver q.body tuple before other) same second.asserts_body)
+
+  pub instance_not_stopped : (one other : Assertions) (fault : EnterFault) → (fault ≢ Memory) →
+      AssertsInstance forall tuple before one → StopsAssertInstance forall tuple before other fault → ⊥
+  instance_not_stopped one other fault not asserts stops =
+      let same : stops.quantified ≡ asserts.quantified = same_Some stops.quantified asserts.quantified
+      (sym stops.is_forall ∙ asserts.is_forall) in
+      over_not_stopped asserts.quantified.body tuple before one other fault
+      (body_over asserts.quantified asserts.is_forall) stand are not asserts.asserts_body
+      (subst (λ (q : TableForall). StopsOver q.body tuple before other fault) same stops.stops_body)
+
+  pub instance_stopped_once : (one other : Assertions) (fault also : EnterFault) → (fault ≢ Memory) →
+      (also ≢ Memory) → StopsAssertInstance forall tuple before one fault →
+      StopsAssertInstance forall tuple before other also → (fault ≡ also) × (one ≡ other)
+  instance_stopped_once one other fault also not so first second =
+      let same : second.quantified ≡ first.quantified = same_Some second.quantified first.quantified
+      (sym second.is_forall ∙ first.is_forall) in
+      over_stopped_once first.quantified.body tuple before one other fault also
+      (body_over first.quantified first.is_forall) stand are not so first.stops_body
+      (subst (λ (q : TableForall). StopsOver q.body tuple before other also) same second.stops_body)

@@ -22,7 +22,7 @@ use Rattle.formula_table.specs.Formulas.{Formulas, IsFormulaTable, GrowsTable, N
 use Rattle.formula_assert.specs.declared.level.Level.{Level}
 use Rattle.formula_assert.specs.Assertions.{Saved, Assertions, pushed, popped, restored}
 use Rattle.formula_assert.specs.InLevel.{GrowsGraph, KeepsLevels, StandAlike}
-use Rattle.formula_assert.specs.AssertFormula.{StopsAssert, KeepsFormulas}
+use Rattle.formula_assert.specs.AssertFormula.{StopsOver, KeepsFormulas}
 use Rattle.formula_assert.specs.Stands.{IsTableOver, AreSaved}
 use Rattle.formula_assert.specs.StackInside.{saved_of, Fall, IsStackOf, assertions_with}
 use Rattle.match_graph.specs.GraphTerms.{with_terms}
@@ -219,10 +219,10 @@ module _ (graph later : GraphState) (table grown : Formulas) (asserted after mor
       }
 
 -- what a refused entry leaves of the graph
-pub stop_grows : (before after : GraphState) (formula : Formula) (rows : List TermRow) (limit : ℕ) (table : Formulas) (fault : EnterFault) → StopsEntry (λ more. after ≡ with_terms before more) (λ added. (middle : GraphState) × (middle ≡ with_terms before added) × (after ≡ middle)) formula [] rows limit table fault → GrowsGraph before after
-stop_grows before after formula rows limit table TermsFull stops = grows_terms before after stops.added stops.grew
-stop_grows before after formula rows limit table NodesFull stops = grows_terms before after stops.rows_grow.added stops.rows_grow.grew
-stop_grows before after formula rows limit table Memory stops = ⊎_elim (grows_terms before after stops.added) (λ p. grows_terms before after stops.added (p.2 ∙ p.1)) stops.grew
+pub stop_grows : (before after : GraphState) (formula : Formula) (tuple : List ℕ) (rows : List TermRow) (limit : ℕ) (table : Formulas) (fault : EnterFault) → StopsEntry (λ more. after ≡ with_terms before more) (λ added. (middle : GraphState) × (middle ≡ with_terms before added) × (after ≡ middle)) formula tuple rows limit table fault → GrowsGraph before after
+stop_grows before after formula tuple rows limit table TermsFull stops = grows_terms before after stops.added stops.grew
+stop_grows before after formula tuple rows limit table NodesFull stops = grows_terms before after stops.rows_grow.added stops.rows_grow.grew
+stop_grows before after formula tuple rows limit table Memory stops = ⊎_elim (grows_terms before after stops.added) (λ p. grows_terms before after stops.added (p.2 ∙ p.1)) stops.grew
 
 -- a table that is the same grew by nothing
 pub grows_nothing : (table same : Formulas) → same ≡ table → GrowsTable table same
@@ -245,10 +245,10 @@ grows_entered formula terms old new number grows = record {
 }
 
 -- why a formula is not entered is why it is not asserted
-pub refused_stops : (formula : Formula) (before after : Assertions) (fault : EnterFault) → KeepsFormulas before after → StopsEntry (λ more. after.graph ≡ with_terms before.graph more) (λ added. (middle : GraphState) × (middle ≡ with_terms before.graph added) × (after.graph ≡ middle)) formula [] (terms_of before.graph.standing) before.graph.limit before.formulas fault → StopsAssert formula before after fault
-refused_stops formula before after TermsFull keeps stops = (stops, keeps)
-refused_stops formula before after NodesFull keeps stops = (stops, keeps)
-refused_stops formula before after Memory keeps stops = (record { added = stops.added; terms = stops.terms; grew = ⊎_elim (λ grew. grew) (λ p. p.2 ∙ p.1) stops.grew; enters = stops.enters }, keeps)
+pub refused_stops : (formula : Formula) (tuple : List ℕ) (before after : Assertions) (fault : EnterFault) → KeepsFormulas before after → StopsEntry (λ more. after.graph ≡ with_terms before.graph more) (λ added. (middle : GraphState) × (middle ≡ with_terms before.graph added) × (after.graph ≡ middle)) formula tuple (terms_of before.graph.standing) before.graph.limit before.formulas fault → StopsOver formula tuple before after fault
+refused_stops formula tuple before after TermsFull keeps stops = (stops, keeps)
+refused_stops formula tuple before after NodesFull keeps stops = (stops, keeps)
+refused_stops formula tuple before after Memory keeps stops = (record { added = stops.added; terms = stops.terms; grew = ⊎_elim (λ grew. grew) (λ p. p.2 ∙ p.1) stops.grew; enters = stops.enters }, keeps)
 
 -- a table that grew, cut back to what it had
 module _ (table grown : Formulas) (grows : GrowsTable table grown) (nodes foralls : ℕ) (nodes_are : nodes ≡ length table.nodes) (foralls_are : foralls ≡ length table.foralls) where
@@ -269,10 +269,10 @@ module _ (table grown : Formulas) (grows : GrowsTable table grown) (nodes forall
   cut_foralls = omega (arith, foralls_are, ap length grows.foralls_are, length-append table.foralls grows.more_foralls)
 
 -- after a refused entry
-module _ (graph later : GraphState) (table same : Formulas) (asserted : List ℕ) (levels : List Level) (formula : Formula) (fault : EnterFault) (stack : IsStackOf graph table asserted levels) (is : same ≡ table)
-    (stops : StopsEntry (λ more. later ≡ with_terms graph more) (λ added. (middle : GraphState) × (middle ≡ with_terms graph added) × (later ≡ middle)) formula [] (terms_of graph.standing) graph.limit table fault) where
+module _ (graph later : GraphState) (table same : Formulas) (asserted : List ℕ) (levels : List Level) (formula : Formula) (tuple : List ℕ) (fault : EnterFault) (stack : IsStackOf graph table asserted levels) (is : same ≡ table)
+    (stops : StopsEntry (λ more. later ≡ with_terms graph more) (λ added. (middle : GraphState) × (middle ≡ with_terms graph added) × (later ≡ middle)) formula tuple (terms_of graph.standing) graph.limit table fault) where
   refused_grows : GrowsGraph graph later
-  refused_grows = stop_grows graph later formula (terms_of graph.standing) graph.limit table fault stops
+  refused_grows = stop_grows graph later formula tuple (terms_of graph.standing) graph.limit table fault stops
 
   -- the stack is one
   pub refused_stack : IsStackOf later same asserted levels
@@ -281,9 +281,9 @@ module _ (graph later : GraphState) (table same : Formulas) (asserted : List ℕ
       (subst (λ (formulas : Formulas). NodesStand (length (terms_of later.standing)) formulas.nodes) (sym is) (NodesStand-more (length (terms_of graph.standing)) (length (terms_of later.standing)) table.nodes (terms_longer graph later refused_grows) stack.terms_stand))
 
   -- the formula is not asserted
-  pub refused_assert : StopsAssert formula (assertions_with graph table asserted levels) (assertions_with later same asserted levels) fault
+  pub refused_assert : StopsOver formula tuple (assertions_with graph table asserted levels) (assertions_with later same asserted levels) fault
   refused_assert =
-      refused_stops formula (assertions_with graph table asserted levels) (assertions_with later same asserted levels) fault
+      refused_stops formula tuple (assertions_with graph table asserted levels) (assertions_with later same asserted levels) fault
       (record { formulas_are = is; asserted_are = refl; saved_are = saved_same graph later table same asserted asserted [] levels stack refused_grows (grows_nothing table same is) (sym (append-nil asserted)) })
       stops
 

@@ -4,6 +4,7 @@ pub mod Asserts
 pub mod Assertions
 pub mod Tables
 pub mod AssertFormula
+pub mod AssertInstance
 pub mod Exactly
 pub mod NoForalls
 pub mod InLevel

@@ -2,6 +2,8 @@
 ghost use Rattle.std.specs.Prelude.{◌≡◌, ◌<◌, ◌≤◌, ◌++◌, ◌∷◌, [], ℕ, List, length, slice_get, Some, Contains, ◌↔◌, IsTrue, IfOk, IfErr, OnOk, OnErr};
 ghost use Rattle.formula_assert.specs.Assertions.{Assertions, held_of, no_assertions, pushed, popped};
 ghost use Rattle.formula_assert.specs.AssertFormula.{AssertsFormula, StopsAssert};
+ghost use Rattle.formula_assert.specs.AssertInstance.{TermsStand, AssertsInstance, StopsAssertInstance};
+ghost use Rattle.formula_table.specs.Instance.{HasVariables};
 ghost use Rattle.formula_table.specs.declared.node.Node.{Node as SpecNode};
 ghost use Rattle.graph_meaning.specs.State.{replay};
 ghost use Rattle.graph_meaning.specs.Standing.{terms_of, differs_of};
@@ -128,6 +130,31 @@ impl AssertionStack {
         }
     }
 
+    /// Enters the body of a forall over a tuple of terms, one for each of its variables, and then asserts the root.
+    ///
+    /// `TermsFull` comes exactly where the next term is new and as many stand as may, and `NodesFull` where all terms stand,
+    /// the next node is new and as many stand as may. After a refusal, `Memory` too, the formulas and what is asserted are as
+    /// before, and of the terms the first that were to come may stand. Whatever is answered, the levels are as before, and
+    /// what came goes with the level that is open.
+    pub fn assert_instance(&mut self, forall: u32, tuple: &[u32]) -> Result<(), EnterFault>
+        requires variables { HasVariables self.old.formulas forall (length tuple.now) }
+        requires tuple { TermsStand self.old tuple.now }
+        ensures ok { OnOk result (AssertsInstance forall tuple.now self.old self.new) }
+        ensures fault { IfErr result (StopsAssertInstance forall tuple.now self.old self.new) }
+        ensures levels { KeepsLevels self.old self.new }
+    {
+        let mark = self.mark();
+        let root = self.formulas.instance(&mut self.graph, forall, tuple)?;
+        let mut unions = Vec::new(self.alloc);
+        match self.assert_entered(root, &mut unions) {
+            Ok(()) => Ok(()),
+            Err(_memory) => {
+                self.back_to(mark);
+                Err(EnterFault::Memory)
+            }
+        }
+    }
+
     /// Whether the node is asserted.
     pub fn is_asserted(&self, n: u32) -> bool
         ensures { IsTrue result ↔ Contains self.now.asserted n }
@@ -184,16 +211,19 @@ impl AssertionStack {
     {
         Mark {
             version: self.graph.version(),
+            nodes: self.formulas.len(),
+            foralls: self.formulas.foralls(),
             asserted: self.asserted.len(),
         }
     }
 
-    /// Goes back to what was held at a mark, over the same formulas and in the same levels. Takes no memory.
+    /// Goes back to what was held at a mark, and to the formulas that stood then, in the same levels. Takes no memory.
     pub fn back_to(&mut self, mark: Mark)
-        requires { (before : Assertions) × IsMark before mark × HoldsMoreOver before self.old }
-        ensures { (before : Assertions) → IsMark before mark → HoldsMoreOver before self.old → self.new ≡ before }
+        requires { (before : Assertions) × IsMark before mark × KeepsLevels before self.old }
+        ensures { (before : Assertions) → IsMark before mark → KeepsLevels before self.old → self.new ≡ before }
     {
         take_back_to(&mut self.graph, mark.version);
+        self.formulas.cut(mark.nodes, mark.foralls);
         self.asserted.keep_first(mark.asserted);
     }
 

@@ -1,22 +1,32 @@
 //! Laws of the definitions, each on a function that does nothing.
-ghost use Rattle.std.specs.Prelude.{◌≡◌, ◌≢◌, [], ℕ, ◌<◌, length};
+ghost use Rattle.std.specs.Prelude.{◌≡◌, ◌≢◌, [], ℕ, ◌<◌, List, length};
 ghost use Rattle.formula_draft.specs.Draft.{Formula, IsFormula};
 ghost use Rattle.formula_table.specs.declared.enter_fault.EnterFault.{EnterFault as Fault};
 ghost use Rattle.formula_table.specs.declared.enter_fault.EnterFault.TheVariants.{Memory};
 ghost use Rattle.formula_table.specs.Formulas.{Formulas};
+ghost use Rattle.formula_table.specs.Instance.{HasVariables};
 ghost use Rattle.formula_assert.specs.Held.{Held};
 ghost use Rattle.formula_assert.specs.Asserts.{Asserts};
 ghost use Rattle.formula_assert.specs.Assertions.{Assertions, no_assertions, pushed, popped};
 ghost use Rattle.formula_assert.specs.AssertFormula.{AssertsFormula, StopsAssert};
+ghost use Rattle.formula_assert.specs.AssertInstance.{TermsStand, AssertsInstance, StopsAssertInstance};
 ghost use Rattle.formula_assert.specs.Tables.{AreTables};
 ghost use Rattle.formula_assert.specs.Exactly.{AreExact};
 ghost use Rattle.formula_assert.specs.NoForalls.{HasNoForalls};
 ghost use Rattle.formula_assert.specs.Stands.{AreAssertions};
-ghost use Rattle.formula_assert.specs.InLevel.{KeepsLevels, StandAlike};
+ghost use Rattle.formula_assert.specs.InLevel.{HoldsMoreOver, KeepsLevels, StandAlike};
 
 /// To assert a node has one outcome at most.
 pub fn asserts_law()
     ensures once { (formulas : Formulas) (n : ℕ) (before one other : Held) → Asserts formulas n before one → Asserts formulas n before other → one ≡ other }
+{}
+
+/// The levels are kept where nothing comes, where more is held over the same formulas, and where they are kept and then kept
+/// again.
+pub fn over_law()
+    ensures same { (now : Assertions) → KeepsLevels now now }
+    ensures over { (before after : Assertions) → HoldsMoreOver before after → KeepsLevels before after }
+    ensures both { (first second third : Assertions) → KeepsLevels first second → KeepsLevels second third → KeepsLevels first third }
 {}
 
 /// What came in a level goes with it, and a level that ends gives back what stood when it was opened.
@@ -26,23 +36,26 @@ pub fn pop_law()
 {}
 
 /// The terms and the formulas are tables in what a stack holds, and they are at the start, after a level was opened or ended,
-/// and after a formula was asserted.
+/// and after a formula or an instance of a forall was asserted.
 pub fn tables_law()
     ensures start { (terms nodes : ℕ) → AreTables (no_assertions terms nodes) }
     ensures opened { (now : Assertions) → AreTables now → AreTables (pushed now) }
     ensures ended { (now : Assertions) → AreTables now → AreTables (popped now) }
     ensures asserted { (formula : Formula) (before after : Assertions) → IsFormula formula → AreTables before → AssertsFormula formula before after → AreTables after }
+    ensures asserted_instance { (forall : ℕ) (tuple : List ℕ) (before after : Assertions) → HasVariables before.formulas forall (length tuple) → TermsStand before tuple → AreTables before → AssertsInstance forall tuple before after → AreTables after }
     ensures held { (now : Assertions) → AreAssertions now → AreTables now }
 {}
 
 /// What is held is exactly what the asserted nodes stand for, now and as it stood when each level was opened: so it is at the
-/// start, after a level was opened or ended, after a formula was asserted, and after one was refused.
+/// start, after a level was opened or ended, after a formula or an instance of a forall was asserted, and after one was refused.
 pub fn exactly_law()
     ensures start { (terms nodes : ℕ) → AreExact (no_assertions terms nodes) }
     ensures opened { (now : Assertions) → AreExact now → AreExact (pushed now) }
     ensures ended { (now : Assertions) → AreExact now → AreExact (popped now) }
     ensures asserted { (formula : Formula) (before after : Assertions) → AreTables before → AreExact before → AssertsFormula formula before after → AreExact after }
     ensures stopped { (formula : Formula) (before after : Assertions) (fault : Fault) → AreExact before → StopsAssert formula before after fault → AreExact after }
+    ensures asserted_instance { (forall : ℕ) (tuple : List ℕ) (before after : Assertions) → AreTables before → AreExact before → AssertsInstance forall tuple before after → AreExact after }
+    ensures stopped_instance { (forall : ℕ) (tuple : List ℕ) (before after : Assertions) (fault : Fault) → AreExact before → StopsAssertInstance forall tuple before after fault → AreExact after }
 {}
 
 /// No forall stands, now and when each level was opened: so it is at the start, after a level was opened or ended, after a
@@ -55,9 +68,13 @@ pub fn ground_law()
     ensures stopped { (formula : Formula) (before after : Assertions) (fault : Fault) → HasNoForalls before → StopsAssert formula before after fault → HasNoForalls after }
 {}
 
-/// Over tables a formula is asserted in one way, and then not refused, and it is refused in one way, each but for want of memory.
+/// Over tables a formula is asserted in one way, and then not refused, and it is refused in one way, each but for want of memory;
+/// and so is an instance of a forall, over a tuple of terms that stand, one for each variable.
 pub fn one_answer_law()
     ensures once { (formula : Formula) (before one other : Assertions) → IsFormula formula → AreTables before → AssertsFormula formula before one → AssertsFormula formula before other → one ≡ other }
     ensures not_both { (formula : Formula) (before one other : Assertions) (fault : Fault) → IsFormula formula → AreTables before → (fault ≢ Memory) → AssertsFormula formula before one → StopsAssert formula before other fault → ⊥ }
     ensures alike { (formula : Formula) (before one other : Assertions) (fault also : Fault) → IsFormula formula → AreTables before → (fault ≢ Memory) → (also ≢ Memory) → StopsAssert formula before one fault → StopsAssert formula before other also → (fault ≡ also) × (one ≡ other) }
+    ensures once_instance { (forall : ℕ) (tuple : List ℕ) (before one other : Assertions) → HasVariables before.formulas forall (length tuple) → TermsStand before tuple → AreTables before → AssertsInstance forall tuple before one → AssertsInstance forall tuple before other → one ≡ other }
+    ensures not_both_instance { (forall : ℕ) (tuple : List ℕ) (before one other : Assertions) (fault : Fault) → HasVariables before.formulas forall (length tuple) → TermsStand before tuple → AreTables before → (fault ≢ Memory) → AssertsInstance forall tuple before one → StopsAssertInstance forall tuple before other fault → ⊥ }
+    ensures alike_instance { (forall : ℕ) (tuple : List ℕ) (before one other : Assertions) (fault also : Fault) → HasVariables before.formulas forall (length tuple) → TermsStand before tuple → AreTables before → (fault ≢ Memory) → (also ≢ Memory) → StopsAssertInstance forall tuple before one fault → StopsAssertInstance forall tuple before other also → (fault ≡ also) × (one ≡ other) }
 {}

@@ -1,3 +1,5 @@
+pub mod Candidates
 pub mod DoneInstances
 pub mod Instance
+pub mod KeySet
 pub mod New

@@ -42,7 +42,6 @@ pub struct BranchValues {
 impl BranchValues {
     /// The values of all formulas by what the stack holds; nothing is struck, and no level is open.
     pub fn new(alloc: Global, stack: &AssertionStack) -> Result<BranchValues, Memory>
-        requires { stack.now.formulas.foralls ≡ [] }
         ensures { IfOk result (λ values. AreValuesOf stack.now [] values) }
     {
         let _rules = stack.depth();

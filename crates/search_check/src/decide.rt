@@ -2,22 +2,25 @@
 ghost use Rattle.std.specs.Prelude.{◌≡◌, [], IfOk};
 ghost use Rattle.formula_assert.specs.Assertions.{held_of};
 ghost use Rattle.formula_assert.specs.Exactly.{HoldsExactly};
-ghost use Rattle.formula_assert.specs.InLevel.{HoldsMoreOver};
+ghost use Rattle.formula_assert.specs.InLevel.{HoldsMoreOver, KeepsLevels};
 ghost use Rattle.search_check.specs.Verdicts.{IsVerdictOf, TellsOfAssignments};
 
 use crate::outcome::Outcome;
 use crate::search::Search;
 use formula_assert::AssertionStack;
+use formula_assert::laws::over_law;
 use graph_terms::Memory;
 use search_laws::laws::{sat_law, unsat_law};
 use std::alloc::Global;
 
-/// Searches what the stack holds. More is held after it.
+/// Searches what the stack holds. More is held after it, in the same levels.
 fn search(alloc: Global, stack: &mut AssertionStack) -> Result<Outcome, Memory>
     requires { stack.old.formulas.foralls ≡ [] }
     ensures verdict { IfOk result (IsVerdictOf stack.old.formulas (held_of stack.old)) }
     ensures more { HoldsMoreOver stack.old stack.new }
+    ensures levels { KeepsLevels stack.old stack.new }
 {
+    over_law();
     let mut search = Search::new(alloc, stack)?;
     for _step in 0..u64::MAX {
         if let Some(outcome) = search.advance(alloc, stack)? {

@@ -10,6 +10,7 @@ use crate::aside::Aside;
 use crate::kept::kept_of;
 use crate::outcome::Outcome;
 use formula_assert::AssertionStack;
+use formula_assert::laws::over_law;
 use graph_terms::Memory;
 use search_branch::{BranchValues, Step};
 use std::alloc::Global;
@@ -85,6 +86,7 @@ impl Search {
         ensures ok { IfOk result (λ outcome. (start : Assertions) → IsSearching start stack.old self.old → GoesOn start stack.new self.new outcome) }
         ensures more { (start : Assertions) → IsSearching start stack.old self.old → HoldsMoreOver start stack.new }
     {
+        over_law();
         match self.asides.pop() {
             None => return Ok(Some(Outcome::Unsat)),
             Some(aside) => {

@@ -3,10 +3,10 @@ use Rattle.search_check.proofs.TellLemmas.{told_of}
 use Rattle.search_check.proofs.decide.check.Goals as goal
 
 pub back_to-requires : goal.back_to-requires
-back_to-requires c = (c.args.stack.now, c.mark-mark.ensures, c.search-outcome.ensures.more)
+back_to-requires c = (c.args.stack.now, c.mark-mark.ensures, c.search-outcome.ensures.levels)
 
 pub returns-clause-same : goal.returns-clause-same
-returns-clause-same c = c.back_to.ensures c.args.stack.now c.mark-mark.ensures c.search-outcome.ensures.more
+returns-clause-same c = c.back_to.ensures c.args.stack.now c.mark-mark.ensures c.search-outcome.ensures.levels
 
 pub returns-clause-tells : goal.returns-clause-tells
 returns-clause-tells c =

@@ -23,15 +23,19 @@ close-requires c = opened c.requires.under_way.0 c.args.stack.now c.args.self.no
     c.in-Some.aside c.args.self.now.struck.items c.args.self.now.values c.in-Some.ensures.items c.requires.under_way.1
 
 pub back_to-requires : goal.back_to-requires
-back_to-requires c = marked c.requires.under_way.0 c.args.stack.now c.args.self.now.asides.items c.pop.new.self.items
+back_to-requires c =
+    let at = marked c.requires.under_way.0 c.args.stack.now c.args.self.now.asides.items c.pop.new.self.items
     c.in-Some.aside c.args.self.now.struck.items c.args.self.now.values c.in-Some.ensures.items c.requires.under_way.1
+    in
+    (at.0, at.1, c.over_law.ensures.over at.0 c.args.stack.now at.2)
 
 pub refute-requires : goal.refute-requires
 refute-requires c = (
   c.requires.under_way.0,
   again_there c.requires.under_way.0 c.args.stack.now c.args.self.now.asides.items c.pop.new.self.items
       c.in-Some.aside c.args.self.now.struck.items c.args.self.now.values c.in-Some.ensures.items
-      c.requires.under_way.1 c.back_to.new.self c.close.new.self c.back_to.ensures c.close.ensures.values
+      c.requires.under_way.1 c.back_to.new.self c.close.new.self (λ before mark over. c.back_to.ensures before mark
+    (c.over_law.ensures.over before c.args.stack.now over)) c.close.ensures.values
       c.close.ensures.levels c.requires.step,
 )
 
@@ -40,13 +44,15 @@ returns-in-Some-clause-ok c = ok_then c.refute.result c.refute.ensures.ok (λ ou
     follows start
     (again_there start c.args.stack.now c.args.self.now.asides.items c.pop.new.self.items
     c.in-Some.aside c.args.self.now.struck.items c.args.self.now.values c.in-Some.ensures.items
-    searching c.back_to.new.self c.close.new.self c.back_to.ensures c.close.ensures.values
+    searching c.back_to.new.self c.close.new.self (λ before mark over. c.back_to.ensures before mark
+    (c.over_law.ensures.over before c.args.stack.now over)) c.close.ensures.values
     c.close.ensures.levels c.requires.step))
 
 pub returns-in-Some-clause-more : goal.returns-in-Some-clause-more
 returns-in-Some-clause-more c start searching = over_both start c.back_to.new.self c.refute.new.stack
     (over_back start c.args.stack.now c.args.self.now.asides.items c.pop.new.self.items
     c.in-Some.aside c.args.self.now.struck.items c.args.self.now.values c.in-Some.ensures.items
-    searching c.back_to.new.self c.close.new.self c.back_to.ensures c.close.ensures.values
+    searching c.back_to.new.self c.close.new.self (λ before mark over. c.back_to.ensures before mark
+    (c.over_law.ensures.over before c.args.stack.now over)) c.close.ensures.values
     c.close.ensures.levels)
     c.refute.ensures.more

@@ -1,0 +1,150 @@
+-- An instance of a forall that was entered, and its root.
+use Rattle.std.proofs.Common.{◌≡◌, inl, ℕ, ◌<◌, List, [], ◌++◌, length, slice_get, Some, All, refl, sym, ap, subst, ◌∙◌, append-nil, arith}
+use Rattle.std.proofs.lemmas.Option.{none-some, same_Some, slice_get_within}
+use Rattle.graph_terms.specs.declared.term_row.TermRow.{TermRow}
+use Rattle.graph_meaning.specs.Standing.{terms_of}
+use Rattle.graph_meaning.specs.State.{GraphState}
+use Rattle.formula_draft.specs.Draft.{Formula}
+use Rattle.formula_table.specs.Body.{IsFormulaOver}
+use Rattle.formula_table.specs.declared.enter_fault.EnterFault.{EnterFault}
+use Rattle.formula_table.specs.declared.enter_fault.EnterFault.TheVariants.{Memory}
+use Rattle.formula_table.specs.declared.table_forall.TableForall.{TableForall}
+use Rattle.formula_table.specs.Entry.{Enters, EntersRows}
+use Rattle.formula_table.specs.Formulas.{Formulas, IsFormulaTable}
+use Rattle.formula_table.specs.Instance.{HasVariables, EntersInstance, StopsInstance}
+use Rattle.match_graph.specs.GraphTerms.{with_terms}
+use Rattle.formula_assert.specs.declared.level.Level.{Level}
+use Rattle.formula_assert.specs.Held.{Held, held}
+use Rattle.formula_assert.specs.Assertions.{Assertions, held_of}
+use Rattle.formula_assert.specs.Asserts.{Asserts}
+use Rattle.formula_assert.specs.AssertFormula.{AssertsOver, StopsOver}
+use Rattle.formula_assert.specs.AssertInstance.{AssertsInstance, StopsAssertInstance}
+use Rattle.formula_assert.specs.InLevel.{HoldsMoreOver, KeepsLevels}
+use Rattle.formula_assert.specs.StackInside.{IsStackOf, assertions_with}
+use Rattle.formula_assert.proofs.Growth.{holds_same}
+use Rattle.formula_assert.proofs.StackLemmas.{refused_stack, refused_assert, refused_keeps}
+use Rattle.formula_assert.proofs.AssertLemmas.{entered_root, asserted_stack, asserted_keeps}
+use Rattle.formula_assert.proofs.LevelLemmas.{over_levels, both_levels}
+
+-- the body of a forall is a formula over as many terms as it has variables
+body_over : (table : Formulas) (forall : ℕ) (tuple : List ℕ) → IsFormulaTable table →
+    HasVariables table forall (length tuple) → (quantified : TableForall) →
+    slice_get table.foralls forall ≡ Some quantified → IsFormulaOver (length tuple) quantified.body
+body_over table forall tuple is has quantified at =
+    let same : has.0 ≡ quantified = same_Some has.0 quantified (sym has.1 ∙ at) in
+    subst (λ (count : ℕ). IsFormulaOver count quantified.body)
+    (ap (λ (q : TableForall). q.variables) (sym same) ∙ has.2) (is.foralls forall quantified at).body_over
+
+-- an instance that was entered
+module _ (graph entered : GraphState) (table grown : Formulas) (asserted : List ℕ) (levels : List Level)
+    (stack : IsStackOf graph table asserted levels) (is : IsFormulaTable table) (forall : ℕ) (tuple : List ℕ)
+    (has : HasVariables table forall (length tuple))
+    (below : All (λ term. term < length (terms_of graph.standing)) tuple) (root : ℕ)
+    (enters : EntersInstance (λ more. entered ≡ with_terms graph more) forall tuple (terms_of graph.standing)
+    graph.limit table grown root) where
+  body_is : IsFormulaOver (length tuple) enters.quantified.body
+  body_is = body_over table forall tuple is has enters.quantified enters.is_forall
+
+  -- its root stands
+  pub instance_root : root < length grown.nodes
+  instance_root = entered_root enters.quantified.body tuple body_is graph entered below table grown graph.limit root
+      enters.enters stack.terms_stand
+
+  -- the stack is one
+  pub instance_stack : IsStackOf entered grown asserted levels
+  instance_stack = asserted_stack enters.quantified.body tuple body_is graph entered below table grown graph.limit root
+      enters.enters stack.terms_stand entered asserted asserted levels (holds_same (held entered asserted)) stack
+
+  -- and its levels are as before
+  pub instance_keeps : KeepsLevels (assertions_with graph table asserted levels)
+      (assertions_with entered grown asserted levels)
+  instance_keeps = asserted_keeps enters.quantified.body tuple body_is graph entered below table grown graph.limit root
+      enters.enters stack.terms_stand entered asserted asserted levels (holds_same (held entered asserted)) stack
+
+  -- and more was held then
+  module _ (after : Assertions) (over : HoldsMoreOver (assertions_with entered grown asserted levels) after) where
+    pub instance_after : KeepsLevels (assertions_with graph table asserted levels) after
+    instance_after = both_levels (assertions_with graph table asserted levels)
+        (assertions_with entered grown asserted levels) after instance_keeps
+        (over_levels (assertions_with entered grown asserted levels) after over)
+
+    -- as its root was asserted
+    pub instance_asserted : Asserts grown root (held entered asserted) (held_of after) →
+        AssertsInstance forall tuple (assertions_with graph table asserted levels) after
+    instance_asserted asserts = record {
+      quantified = enters.quantified;
+      is_forall = enters.is_forall;
+      asserts_body = record {
+        entered = entered;
+        root = root;
+        enters = subst (λ (formulas : Formulas). Enters (λ more. entered ≡ with_terms graph more)
+            enters.quantified.body tuple (terms_of graph.standing) graph.limit table formulas root)
+            (sym over.formulas_are) enters.enters;
+        asserts = subst (λ (formulas : Formulas). Asserts formulas root (held entered asserted) (held_of after))
+            (sym over.formulas_are) asserts;
+        saved_is = over.saved_are ∙ instance_keeps.saved_are;
+      };
+    }
+
+-- no rows were entered
+no_rows : (formula : Formula) (tuple : List ℕ) (rows : List TermRow) (limit : ℕ) →
+    EntersRows formula tuple rows limit [] []
+no_rows formula tuple rows limit = record {
+  stand = λ n x less. absurd (omega arith);
+  things = [];
+  rising = λ i j d a b. absurd (omega (arith, b));
+  count = refl;
+  each = λ k n x thing. absurd (none-some n thing);
+  first = λ k m n x thing. absurd (none-some n thing);
+  once = λ i j x one other behind. let within = slice_get_within (rows ++ []) j x other in
+      absurd (omega (arith, within, ap length (append-nil rows)));
+  room = inl refl;
+}
+
+-- all is as before
+pub instance_undone : (before after : Assertions) (forall : ℕ) (tuple : List ℕ) (n : ℕ) →
+    HasVariables before.formulas forall n → after ≡ before → StopsAssertInstance forall tuple before after Memory
+instance_undone before after forall tuple n has is = record {
+  quantified = has.0;
+  is_forall = has.1;
+  stops_body = (
+    record {
+      added = [];
+      terms = [];
+      grew = ap (λ (now : Assertions). now.graph) is;
+      enters = no_rows has.0.body tuple (terms_of before.graph.standing) before.graph.limit;
+    },
+    record {
+      formulas_are = ap (λ (now : Assertions). now.formulas) is;
+      asserted_are = ap (λ (now : Assertions). now.asserted) is;
+      saved_are = ap (λ (now : Assertions). now.saved) is;
+    },
+  );
+}
+
+-- an instance that was not entered
+module _ (graph later : GraphState) (table same : Formulas) (asserted : List ℕ) (levels : List Level) (forall : ℕ)
+    (tuple : List ℕ) (fault : EnterFault) (stack : IsStackOf graph table asserted levels) (is : same ≡ table)
+    (stops : StopsInstance (λ more. later ≡ with_terms graph more) (λ added. (middle : GraphState) ×
+    (middle ≡ with_terms graph added) × (later ≡ middle)) forall tuple (terms_of graph.standing) graph.limit table
+    fault) where
+  -- leaves a stack
+  pub no_instance_stack : IsStackOf later same asserted levels
+  no_instance_stack = refused_stack graph later table same asserted levels stops.quantified.body tuple fault stack is
+      stops.stops
+
+  -- is not asserted
+  pub no_instance_asserted : StopsAssertInstance forall tuple (assertions_with graph table asserted levels)
+      (assertions_with later same asserted levels) fault
+  no_instance_asserted = record {
+    quantified = stops.quantified;
+    is_forall = stops.is_forall;
+    stops_body = refused_assert graph later table same asserted levels stops.quantified.body tuple fault stack is
+        stops.stops;
+  }
+
+  -- and leaves the levels as before
+  pub no_instance_keeps : KeepsLevels (assertions_with graph table asserted levels)
+      (assertions_with later same asserted levels)
+  no_instance_keeps = refused_keeps graph later table same asserted levels stops.quantified.body tuple fault stack is
+      stops.stops
