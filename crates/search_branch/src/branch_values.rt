@@ -27,6 +27,8 @@ use search_watch::{Mark, Watch};
 use std::alloc::Global;
 
 /// The values of all formulas by what an assertion stack holds, with levels.
+///
+/// A forall is known to be true where it is asserted; elsewhere nothing is known of it.
 #[derive(Drop)]
 pub struct BranchValues {
     /// The value of each formula, and which are units, open and stuck.
