@@ -1,0 +1,79 @@
+-- A search that ends open has a cause.
+use Rattle.std.proofs.Common.{◌≡◌, ℕ, ◌≤◌, List, [], ◌∷◌, ◌++◌, length, All, refl, sym, ap, subst, ◌∙◌, arith}
+use Rattle.std.proofs.lemmas.List.Elements.{All-nil, All-push}
+use Rattle.match_store.specs.declared.instance.Instance.{Instance}
+use Rattle.formula_table.specs.Formulas.{Formulas}
+use Rattle.formula_assert.specs.Held.{Held}
+use Rattle.search_laws.specs.Branch.{Branch}
+use Rattle.search_laws.specs.Path.{Path, first_path, with_branch, after_round}
+use Rattle.search_laws.specs.Rounds.{EntersAll, AreNewIn}
+use Rattle.search_laws.specs.Rounds as entering
+use Rattle.search_laws.specs.Verdict.{Ending, settled, rounds_spent, IsUndecided, Verdict}
+use Rattle.search_laws.specs.Verdict as verdict
+use Rattle.search_laws.specs.Laws.{IsLeftOpen, OpensForACause}
+
+-- an undecided branch is left open
+left_open : (path : Path) (closed : Branch) → IsUndecided path closed → IsLeftOpen (with_branch path closed)
+left_open path closed undecided = record {
+  no_conflict = undecided.decided.quiet.no_conflict;
+  no_open = undecided.decided.no_open;
+  some_live = undecided.some_live;
+}
+
+-- open, and nothing is new
+IsSettled : Path → Type 0
+IsSettled last = IsLeftOpen last × AreNewIn last []
+
+settles : {rounds : ℕ} {path : Path} {ending : Ending} → Verdict rounds path ending → (last : Path) →
+    ending ≡ settled last → IsSettled last
+settles (verdict.conflict closes c) last e = cc
+settles (verdict.first_half quiet split asserts after not) last e = settles after last e
+settles (verdict.second_half quiet split asserts lost has after) last e = settles after last e
+settles (verdict.satisfied decided no_live) last e = cc
+settles (verdict.nothing_new {path} {closed} undecided none) last e =
+    let same : with_branch path closed ≡ last = cc in subst IsSettled same (left_open path closed undecided, none)
+settles (verdict.no_round undecided new spent) last e = cc
+settles (verdict.round undecided new less enters after) last e = settles after last e
+settles (verdict.past_limit undecided new less over) last e = cc
+
+-- each round that is spent entered an instance or more
+EachEntered : List ℕ → Type 0
+EachEntered spent = All (λ count. 1 ≤ count) spent
+
+-- open, an instance is new, and so many rounds are spent, each of which entered one or more
+IsSpent : ℕ → Path → Type 0
+IsSpent rounds last = IsLeftOpen last ×
+    ((instance : Instance) × (instances : List Instance) × AreNewIn last (instance ∷ instances)) ×
+    (length last.spent ≡ rounds) × All (λ count. 1 ≤ count) last.spent
+
+-- to enter instances spends no round by itself
+spent_is : {instances : List Instance} {before after : Path} → EntersAll instances before after →
+    after.spent ≡ before.spent
+spent_is entering.none = refl
+spent_is (entering.more one rest) = spent_is rest ∙ one.spent_is
+
+one_more : {path next : Path} (instance : Instance) (instances : List Instance) → next.spent ≡ path.spent →
+    EachEntered path.spent → EachEntered (after_round next (length (instance ∷ instances))).spent
+one_more {path} {next} instance instances same each = All-push (λ count. 1 ≤ count) next.spent
+    (length (instance ∷ instances)) (subst EachEntered (sym same) each) (omega arith)
+
+spends : {rounds : ℕ} {path : Path} {ending : Ending} → Verdict rounds path ending → (last : Path) →
+    ending ≡ rounds_spent last → EachEntered path.spent → IsSpent rounds last
+spends (verdict.conflict closes c) last e each = cc
+spends (verdict.first_half quiet split asserts after not) last e each = spends after last e each
+spends (verdict.second_half quiet split asserts lost has after) last e each = spends after last e each
+spends (verdict.satisfied decided no_live) last e each = cc
+spends (verdict.nothing_new undecided none) last e each = cc
+spends {rounds} (verdict.no_round {path} {closed} {instance} {instances} undecided new spent) last e each =
+    let same : with_branch path closed ≡ last = cc in
+    subst (IsSpent rounds) same
+    (left_open path closed undecided, (instance, instances, new), spent, each)
+spends (verdict.round {path} {next} {closed} {instance} {instances} undecided new less enters after) last e each =
+    spends after last e (one_more {path} {next} instance instances (spent_is enters) each)
+spends (verdict.past_limit undecided new less over) last e each = cc
+
+pub opens : OpensForACause
+opens = record {
+  settles = λ rounds path last ends. settles ends last refl;
+  spends = λ rounds formulas now last ends. spends ends last refl (All-nil (λ count. 1 ≤ count));
+}
