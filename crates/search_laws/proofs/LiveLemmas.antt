@@ -118,7 +118,7 @@ live_one {instance} {before} {after} one live =
     (live_longer before.formulas.nodes grows.nodes before.branch.held.asserted live) in
     live_asserts after.formulas one.asserts longer
 
-live_all : {instances : List Instance} {before after : Path} → EntersAll instances before after →
+pub live_all : {instances : List Instance} {before after : Path} → EntersAll instances before after →
     IsLivePath before → IsLivePath after
 live_all entering.none live = live
 live_all (entering.more one rest) live = live_all rest (live_one one live)

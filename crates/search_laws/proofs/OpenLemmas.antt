@@ -21,7 +21,7 @@ left_open path closed undecided = record {
 }
 
 -- open, and nothing is new
-IsSettled : Path → Type 0
+abbrev IsSettled : Path → Type 0
 IsSettled last = IsLeftOpen last × AreNewIn last []
 
 settles : {rounds : ℕ} {path : Path} {ending : Ending} → Verdict rounds path ending → (last : Path) →
@@ -37,14 +37,17 @@ settles (verdict.round undecided new less enters after) last e = settles after l
 settles (verdict.past_limit undecided new less over) last e = cc
 
 -- each round that is spent entered an instance or more
-EachEntered : List ℕ → Type 0
-EachEntered spent = All (λ count. 1 ≤ count) spent
+record EachEntered (spent : List ℕ) : Type 0 where
+  entered : All (λ count. 1 ≤ count) spent
 
 -- open, an instance is new, and so many rounds are spent, each of which entered one or more
-IsSpent : ℕ → Path → Type 0
-IsSpent rounds last = IsLeftOpen last ×
-    ((instance : Instance) × (instances : List Instance) × AreNewIn last (instance ∷ instances)) ×
-    (length last.spent ≡ rounds) × All (λ count. 1 ≤ count) last.spent
+record IsSpent (rounds : ℕ) (last : Path) : Type 0 where
+  is_open : IsLeftOpen last
+  instance : Instance
+  instances : List Instance
+  new : AreNewIn last (instance ∷ instances)
+  count : length last.spent ≡ rounds
+  each : EachEntered last.spent
 
 -- to enter instances spends no round by itself
 spent_is : {instances : List Instance} {before after : Path} → EntersAll instances before after →
@@ -52,10 +55,26 @@ spent_is : {instances : List Instance} {before after : Path} → EntersAll insta
 spent_is entering.none = refl
 spent_is (entering.more one rest) = spent_is rest ∙ one.spent_is
 
-one_more : {path next : Path} (instance : Instance) (instances : List Instance) → next.spent ≡ path.spent →
+-- and a round that entered some is one more that did
+one_more : (instance : Instance) (instances : List Instance) (path next : Path) → next.spent ≡ path.spent →
     EachEntered path.spent → EachEntered (after_round next (length (instance ∷ instances))).spent
-one_more {path} {next} instance instances same each = All-push (λ count. 1 ≤ count) next.spent
-    (length (instance ∷ instances)) (subst EachEntered (sym same) each) (omega arith)
+one_more instance instances path next same each = record {
+  entered = All-push (λ count. 1 ≤ count) next.spent (length (instance ∷ instances))
+      (subst EachEntered (sym same) each).entered (omega arith);
+}
+
+-- the search ends here
+spent_here : (rounds : ℕ) (path : Path) (closed : Branch) (instance : Instance) (instances : List Instance) →
+    IsUndecided path closed → AreNewIn (with_branch path closed) (instance ∷ instances) →
+    length path.spent ≡ rounds → EachEntered path.spent → IsSpent rounds (with_branch path closed)
+spent_here rounds path closed instance instances undecided new spent each = record {
+  is_open = left_open path closed undecided;
+  instance = instance;
+  instances = instances;
+  new = new;
+  count = spent;
+  each = each;
+}
 
 spends : {rounds : ℕ} {path : Path} {ending : Ending} → Verdict rounds path ending → (last : Path) →
     ending ≡ rounds_spent last → EachEntered path.spent → IsSpent rounds last
@@ -66,14 +85,15 @@ spends (verdict.satisfied decided no_live) last e each = cc
 spends (verdict.nothing_new undecided none) last e each = cc
 spends {rounds} (verdict.no_round {path} {closed} {instance} {instances} undecided new spent) last e each =
     let same : with_branch path closed ≡ last = cc in
-    subst (IsSpent rounds) same
-    (left_open path closed undecided, (instance, instances, new), spent, each)
+    subst (IsSpent rounds) same (spent_here rounds path closed instance instances undecided new spent each)
 spends (verdict.round {path} {next} {closed} {instance} {instances} undecided new less enters after) last e each =
-    spends after last e (one_more {path} {next} instance instances (spent_is enters) each)
+    spends after last e (one_more instance instances path next (spent_is enters) each)
 spends (verdict.past_limit undecided new less over) last e each = cc
 
 pub opens : OpensForACause
 opens = record {
   settles = λ rounds path last ends. settles ends last refl;
-  spends = λ rounds formulas now last ends. spends ends last refl (All-nil (λ count. 1 ≤ count));
+  spends = λ rounds formulas now last ends.
+      let h = spends ends last refl (record { entered = All-nil (λ count. 1 ≤ count) }) in
+      (h.is_open, (h.instance, h.instances, h.new), h.count, h.each.entered);
 }
