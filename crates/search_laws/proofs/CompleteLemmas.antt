@@ -15,8 +15,6 @@ use Rattle.formula_assert.specs.Exactly.{operations_in, IsDone}
 use Rattle.search_laws.specs.Branch.{Branch, with_struck, live_in}
 use Rattle.search_laws.specs.Closing.{Closes}
 use Rattle.search_laws.specs.Closing as closing
-use Rattle.search_laws.specs.Verdict.{Ending, sat, Verdict}
-use Rattle.search_laws.specs.Verdict as verdict
 use Rattle.search_laws.proofs.Places.{contains_none, contains_cases, with_more}
 use Rattle.search_laws.proofs.GraphLemmas.{Does, does, plain_of, plain_refuting}
 

@@ -1,5 +1,5 @@
 -- A forall that is asserted stays so on the way of a search.
-use Rattle.std.proofs.Common.{◌≡◌, ◌≢◌, ℕ, zero, suc, List, [], ◌∷◌, ◌++◌, length, slice_get, Option, Some, None}
+use Rattle.std.proofs.Common.{◌≡◌, ◌≢◌, ℕ, zero, suc, List, [], ◌∷◌, ◌++◌, slice_get, Option, Some, None}
 use Rattle.std.proofs.Common.{Contains, refl, sym, ap, subst}
 use Rattle.std.specs.Option.{option_map_or}
 use Rattle.std.proofs.lemmas.Option.{none-some, same_Some}
@@ -7,14 +7,13 @@ use Rattle.match_store.specs.declared.instance.Instance.{Instance}
 use Rattle.formula_table.specs.declared.node.Node.{Node}
 use Rattle.formula_table.specs.declared.node.Node.TheVariants.{Equal, Atom, And, Or, Forall}
 use Rattle.formula_table.specs.Formulas.{Formulas}
-use Rattle.formula_table.specs.Entry.{TableGrows}
 use Rattle.formula_value.specs.Holds.{HasNode}
-use Rattle.formula_assert.specs.Held.{Held, held}
+use Rattle.formula_assert.specs.Held.{Held}
 use Rattle.formula_assert.specs.Asserts.{Asserts}
-use Rattle.search_laws.specs.Branch.{Branch, forall_in, foralls_among, with_held, with_struck}
+use Rattle.search_laws.specs.Branch.{Branch, forall_in, foralls_among}
 use Rattle.search_laws.specs.Closing.{Closes}
 use Rattle.search_laws.specs.Closing as closing
-use Rattle.search_laws.specs.Path.{Path, with_branch, after_round}
+use Rattle.search_laws.specs.Path.{Path}
 use Rattle.search_laws.specs.Rounds.{EntersOne, EntersAll}
 use Rattle.search_laws.specs.Rounds as entering
 use Rattle.search_laws.specs.Verdict.{Ending, sat, Verdict}

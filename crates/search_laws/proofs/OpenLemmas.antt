@@ -1,12 +1,10 @@
 -- A search that ends open has a cause.
-use Rattle.std.proofs.Common.{◌≡◌, ℕ, ◌≤◌, List, [], ◌∷◌, ◌++◌, length, All, refl, sym, ap, subst, ◌∙◌, arith}
+use Rattle.std.proofs.Common.{◌≡◌, ℕ, ◌≤◌, List, [], ◌∷◌, length, All, refl, sym, subst, ◌∙◌, arith}
 use Rattle.std.proofs.lemmas.List.Elements.{All-nil, All-push}
 use Rattle.match_store.specs.declared.instance.Instance.{Instance}
-use Rattle.formula_table.specs.Formulas.{Formulas}
 use Rattle.formula_table.specs.declared.enter_fault.EnterFault.{EnterFault}
-use Rattle.formula_assert.specs.Held.{Held}
 use Rattle.search_laws.specs.Branch.{Branch, with_held, with_struck}
-use Rattle.search_laws.specs.Path.{Path, first_path, with_branch, after_round}
+use Rattle.search_laws.specs.Path.{Path, with_branch, after_round}
 use Rattle.search_laws.specs.Rounds.{EntersAll, AreNewIn}
 use Rattle.search_laws.specs.Rounds as entering
 use Rattle.search_laws.specs.Verdict.{Ending, unsat, sat, settled, rounds_spent, refused, IsUndecided, Verdict}

@@ -1,5 +1,5 @@
 -- A search that ends with a way out reaches it without a round.
-use Rattle.std.proofs.Common.{◌≡◌, ℕ, Contains, subst, ap}
+use Rattle.std.proofs.Common.{◌≡◌, ℕ, Contains, subst}
 use Rattle.graph_meaning.specs.declared.op.Op.{Op}
 use Rattle.formula_table.specs.declared.node.Node.{Node}
 use Rattle.formula_table.specs.Formulas.{Formulas}
