@@ -7,5 +7,8 @@ pub mod FitLemmas
 pub mod Totals
 pub mod RefuteLemmas
 pub mod CompleteLemmas
+pub mod LiveLemmas
+pub mod ReachLemmas
+pub mod OpenLemmas
 pub mod KeptLemmas
 pub mod WayOutLemmas

@@ -1,5 +1,5 @@
 //! Laws of the search, each on a function that does nothing.
-ghost use Rattle.search_laws.specs.Laws.{HasOneVerdict, UnsatRefutes, SatSatisfies};
+ghost use Rattle.search_laws.specs.Laws.{HasOneVerdict, UnsatRefutes, SatSatisfies, OpensForACause};
 
 use formula_assert::laws::asserts_law;
 
@@ -18,4 +18,11 @@ pub fn unsat_law()
 /// Where the search ends with a way out, the leaders of its terms make an assignment that satisfies what is asserted.
 pub fn sat_law()
     ensures { SatSatisfies }
+{}
+
+/// Where the search ends open, no conflict stands, no disjunction is open and some forall is live. Where it ends so as nothing
+/// is new, nothing is; where it ends so as its rounds are spent, some instance is new, and as many rounds as it may have entered
+/// one instance or more each.
+pub fn open_law()
+    ensures { OpensForACause }
 {}
