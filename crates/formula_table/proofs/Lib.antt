@@ -13,3 +13,5 @@ pub mod EntryLemmas
 pub mod BodyLemmas
 pub mod ForallLemmas
 pub mod NodeLemmas
+pub mod InstanceLemmas
+pub mod LawLemmas

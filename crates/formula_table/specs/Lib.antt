@@ -10,3 +10,4 @@ pub mod EnterFault
 pub mod Entry
 pub mod EntryInside
 pub mod Instance
+pub mod EntryLaw

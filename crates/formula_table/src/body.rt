@@ -1,5 +1,5 @@
 //! The body of a forall.
-ghost use Rattle.std.specs.Prelude.{◌≡◌, ℕ, ◌<◌, ◌≤◌, ◌++◌, ◌∷◌, [], length, slice_index, All, AllPairs, IfOk, OnOk};
+ghost use Rattle.std.specs.Prelude.{◌≡◌, ℕ, ◌<◌, ◌≤◌, ◌++◌, ◌∷◌, [], Some, length, slice_get, slice_index, All, AllPairs, IfOk, OnOk};
 ghost use Rattle.graph_meaning.specs.Questions.{AreAll};
 ghost use Rattle.formula_draft.specs.DraftRow.{args_of};
 ghost use Rattle.formula_draft.specs.DraftNode.{rows_of, parts_of};
@@ -11,6 +11,7 @@ ghost use Rattle.formula_table.specs.BodyInside.{with_marked, ArePlaces, AreMove
 use crate::enter_nodes::renamed_parts;
 use crate::enter_rows::push_number;
 use crate::reached::{reached_nodes, reached_rows};
+use crate::row_list::RowList;
 use formula_draft::{DraftNode, DraftRow, Formula};
 use graph_terms::Memory;
 use std::alloc::Global;
@@ -55,6 +56,40 @@ impl Body {
             nodes: body_nodes,
             root: node_places[start as usize],
         })
+    }
+
+    /// The number of nodes.
+    pub(crate) fn node_count(&self) -> usize
+        ensures { result ≡ length self.now.nodes }
+    {
+        self.nodes.len()
+    }
+
+    /// The node with this number.
+    pub(crate) fn node_at(&self, n: usize) -> &DraftNode
+        requires { n < length self.now.nodes }
+        ensures { slice_get self.now.nodes n ≡ Some result.now }
+    {
+        &self.nodes[n]
+    }
+
+    /// The node that the body is.
+    pub(crate) fn root(&self) -> u32
+        ensures { result ≡ self.now.root }
+    {
+        self.root
+    }
+}
+
+impl RowList for Body {
+    ghost formula = { λ body. body };
+
+    fn row_count(&self) -> usize {
+        self.rows.len()
+    }
+
+    fn row(&self, n: usize) -> &DraftRow {
+        &self.rows[n]
     }
 }
 

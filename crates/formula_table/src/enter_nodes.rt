@@ -31,7 +31,7 @@ pub(crate) fn renamed_parts(
 }
 
 /// The node of the table that a node of the formula becomes, over terms, numbers of foralls and numbers of earlier nodes.
-fn next_node(
+pub(crate) fn next_node(
     alloc: Global,
     node: &DraftNode,
     terms: &[u32],

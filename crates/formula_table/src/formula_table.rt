@@ -1,11 +1,14 @@
 //! The table of formulas.
-ghost use Rattle.std.specs.Prelude.{◌≡◌, ◌<◌, ◌≤◌, ◌++◌, ◌∷◌, [], Some, length, slice_get, IfOk, IfErr, OnOk, OnErr};
+ghost use Rattle.std.specs.Prelude.{◌≡◌, ◌<◌, ◌≤◌, ◌++◌, ◌∷◌, [], Some, length, slice_get, All, IfOk, IfErr, OnOk, OnErr};
 ghost use Rattle.formula_table.specs.Formulas.{no_formulas, first_formulas, IsFormulaTable, IsForallOf, NamesFirst, HasTriggers, FitsTable, RefusesEntered, with_foralls, with_entered, GrowsTable};
 ghost use Rattle.formula_draft.specs.Reach.{ReachesNode};
 ghost use Rattle.formula_table.specs.Marks.{AreMarks};
 ghost use Rattle.formula_draft.specs.Draft.{IsFormula};
 ghost use Rattle.formula_table.specs.Entry.{TableGrows, StopsTable, Enters, StopsEntry};
+ghost use Rattle.formula_table.specs.Instance.{HasVariables, HasBody, EntersInstance, StopsInstance};
 
+use crate::body::Body;
+use crate::enter_body::{enter_body, enter_body_rows};
 use crate::enter_fault::EnterFault;
 use crate::enter_foralls::enter_foralls;
 use crate::enter_nodes::enter_nodes;
@@ -84,6 +87,22 @@ impl FormulaTable {
         &self.foralls[forall as usize].triggers
     }
 
+    /// The number of variables of a forall.
+    pub fn variables_of(&self, forall: u32) -> u32
+        requires { forall < length self.now.foralls }
+        ensures { HasVariables self.now forall result }
+    {
+        self.foralls[forall as usize].variables
+    }
+
+    /// The body of a forall.
+    pub(crate) fn body_of(&self, forall: u32) -> &Body
+        requires { forall < length self.now.foralls }
+        ensures { HasBody self.now forall result.now }
+    {
+        &self.foralls[forall as usize].body
+    }
+
     /// Keeps the first nodes and foralls.
     pub fn cut(&mut self, nodes: u32, foralls: u32)
         requires nodes { nodes ≤ length self.old.nodes }
@@ -114,6 +133,30 @@ impl FormulaTable {
         let rows = reached_rows(alloc, formula, root, &nodes)?;
         let numbers = enter_rows(alloc, terms, formula, &[], &rows)?;
         let number = self.enter_all(formula, &nodes, &numbers)?;
+        Ok(number)
+    }
+
+    /// Enters the body of a forall over a tuple of terms, one for each variable, in the body's order. First its rows are
+    /// added as terms: a variable is its term of the tuple, and adds none. Then its nodes are entered: a node that stands
+    /// keeps its number, and the terms of an equation are put in ascending order. Gives the number of the body's root.
+    /// `TermsFull` and `NodesFull` come where the next term or node is new, and as many stand as may, and `Memory` where
+    /// memory was refused. After a refusal the table is as before, and the terms that were added stand.
+    pub fn instance<E: TermEntry>(
+        &mut self,
+        terms: &mut E,
+        forall: u32,
+        tuple: &[u32],
+    ) -> Result<u32, EnterFault>
+        requires variables { HasVariables self.old forall (length tuple.now) }
+        requires tuple { All (λ term. term < length (E.rows terms.old)) tuple.now }
+        ensures ok { IfOk result (EntersInstance (E.grown terms.old terms.new) forall tuple.now (E.rows terms.old) (E.limit terms.old) self.old self.new) }
+        ensures fault { IfErr result (StopsInstance (E.grown terms.old terms.new) (λ added. (middle : E) × E.grown terms.old middle added × E.refused middle terms.new) forall tuple.now (E.rows terms.old) (E.limit terms.old) self.old) }
+        ensures err { OnErr result (self.new ≡ self.old) }
+    {
+        let alloc = self.allocator();
+        let _nodes = self.len();
+        let numbers = enter_body_rows(alloc, terms, self.body_of(forall), tuple)?;
+        let number = enter_body(alloc, self, forall, &numbers)?;
         Ok(number)
     }
 

@@ -2,11 +2,13 @@
 #![tactic(auto)]
 
 mod body;
+mod enter_body;
 pub mod enter_fault;
 mod enter_foralls;
 mod enter_nodes;
 mod enter_rows;
 pub mod formula_table;
+pub mod laws;
 pub mod node;
 mod reached;
 mod row_list;

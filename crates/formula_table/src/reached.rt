@@ -1,5 +1,5 @@
 //! What of a formula is reached from a node.
-ghost use Rattle.std.specs.Prelude.{◌≡◌, ◌<◌, length, All, IfOk};
+ghost use Rattle.std.specs.Prelude.{◌≡◌, ◌<◌, true, length, replicate, All, IfOk};
 ghost use Rattle.formula_draft.specs.DraftRow.{args_of};
 ghost use Rattle.formula_draft.specs.DraftNode.{rows_of, parts_of, foralls_of};
 ghost use Rattle.formula_draft.specs.Reach.{ReachesNode, ReachesRow};
@@ -163,5 +163,13 @@ pub(crate) fn reached_foralls(
     ensures { IfOk result (λ marks. AreMarks (length formula.now.foralls) (ReachesForall formula.now) marks.items) }
 {
     let marks = named_foralls(alloc, formula, formula.root(), nodes)?;
+    Ok(marks)
+}
+
+/// So many marks, of which each is set.
+pub(crate) fn all_marked(alloc: Global, count: usize) -> Result<Vec<bool>, Memory>
+    ensures { IfOk result (λ marks. marks.items ≡ replicate count true) }
+{
+    let marks = vec![in alloc; true; count]?;
     Ok(marks)
 }
