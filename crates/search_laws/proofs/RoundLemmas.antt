@@ -353,7 +353,7 @@ module _ (keeps : EntryKeeps) (start : Formulas) where
       stand entry in
       let table = after_entry.rows_stand way.terms in
       let nodes_stand = after_entry.terms_stand way.stand in
-      let more = enters.enters.table_grows.nodes in
+      let more = entry.enters.table_grows.nodes in
       let nodes = nodes_are forall tuple rows later limit before.formulas after.formulas one.root entry way.table
       variables stand in
       let foralls = same_foralls forall tuple rows later limit before.formulas after.formulas one.root entry way.table
