@@ -16,8 +16,8 @@ use Rattle.formula_table.specs.Entry.{BecomesRow, TableGrows, entered_row, enter
 use Rattle.formula_table.specs.Entry.BecomesRow.{variable, application}
 use Rattle.formula_table.specs.Instance.{HasVariables, EntersInstance}
 use Rattle.formula_value.specs.Holds.{HasNode}
-use Rattle.search_laws.specs.Pairs.{Pair, IsRowAt, IsBodyAt, IsInstanceOf}
-use Rattle.search_laws.proofs.Places.{contains_none, contains_head, contains_at, stands_below}
+use Rattle.search_laws.specs.Pairs.{IsRowAt, IsInstanceOf}
+use Rattle.search_laws.proofs.Places.{contains_head, contains_at, stands_below}
 use Rattle.search_laws.proofs.GrownLemmas.{at_front}
 
 module _ {X : Type 0} where

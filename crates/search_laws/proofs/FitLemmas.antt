@@ -1,5 +1,5 @@
 -- Worlds of branches.
-use Rattle.std.proofs.Common.{◌≡◌, ◌≢◌, ℕ, true, false, ◌⊎◌, List, [], ◌∷◌, ◌++◌, slice_get, Some, Contains, refl, sym}
+use Rattle.std.proofs.Common.{◌≡◌, ◌≢◌, ℕ, true, false, ◌⊎◌, List, [], ◌∷◌, ◌++◌, slice_get, Some, Contains, sym}
 use Rattle.std.proofs.Common.{ap, subst, ◌∙◌, ⊎_elim}
 use Rattle.std.proofs.lemmas.Option.{same_Some}
 use Rattle.graph_meaning.specs.declared.op.Op.{Op}

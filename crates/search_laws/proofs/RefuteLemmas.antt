@@ -1,5 +1,5 @@
 -- What is held is refuted where its search ends without a way out, by the instances that it entered.
-use Rattle.std.proofs.Common.{◌≡◌, ℕ, ◌<◌, List, [], ◌∷◌, ◌++◌, length, All, Contains, refl, ⊎_elim}
+use Rattle.std.proofs.Common.{◌≡◌, ℕ, List, [], ◌∷◌, ◌++◌, length, All, Contains, refl, ⊎_elim}
 use Rattle.std.proofs.lemmas.List.Elements.{All-nil, All-append, Contains-append_left, Contains-append_right}
 use Rattle.graph_terms.specs.declared.term_row.TermRow.{TermRow}
 use Rattle.graph_meaning.specs.declared.op.Op.{Op}
@@ -7,13 +7,12 @@ use Rattle.graph_meaning.specs.declared.op.Op.TheVariants.{Add, Merge, Differ, L
 use Rattle.graph_meaning.specs.Standing.{terms_of}
 use Rattle.match_store.specs.declared.instance.Instance.{Instance}
 use Rattle.formula_table.specs.Formulas.{Formulas}
-use Rattle.formula_value.specs.Holds.{HasNode}
 use Rattle.formula_assert.specs.Held.{Held}
 use Rattle.formula_assert.specs.Exactly.{HoldsExactly, operations_in}
-use Rattle.search_laws.specs.Branch.{Branch, with_held, with_struck}
+use Rattle.search_laws.specs.Branch.{Branch, with_struck}
 use Rattle.search_laws.specs.Closing.{Closes}
 use Rattle.search_laws.specs.Path.{Path, first_path, with_branch, after_round}
-use Rattle.search_laws.specs.Rounds.{EntersAll, AreNewIn}
+use Rattle.search_laws.specs.Rounds.{AreNewIn}
 use Rattle.search_laws.specs.Verdict.{Ending, unsat, Verdict}
 use Rattle.search_laws.specs.Verdict as verdict
 use Rattle.search_laws.specs.Assignment.{Assignment, IsAssignment}
@@ -21,10 +20,10 @@ use Rattle.search_laws.specs.Pairs.{Pair, IsInstanceOf, Obeys, AreRefutedByInsta
 use Rattle.search_laws.specs.Laws.{IsInOrder}
 use Rattle.search_laws.proofs.Places.{contains_none}
 use Rattle.search_laws.proofs.Worlds.{World, IsTrueIn, IsTrueOp, operations_true}
-use Rattle.search_laws.proofs.FitLemmas.{FitsHeld, Fits, asserts_fits, no_conflict, part_held, held_fits, struck_fits}
+use Rattle.search_laws.proofs.FitLemmas.{Fits, asserts_fits, no_conflict, part_held, held_fits, struck_fits}
 use Rattle.search_laws.proofs.FitLemmas.{part_or_not, closes_fits}
 use Rattle.search_laws.proofs.Totals.{world_of, is_world, true_in}
-use Rattle.search_laws.proofs.StandingLemmas.{IsHeldOver, exact_over, asserts_over, closes_over, struck_over}
+use Rattle.search_laws.proofs.StandingLemmas.{exact_over, asserts_over, closes_over, struck_over}
 use Rattle.search_laws.proofs.RoundLemmas.{EntryKeeps, IsOnWay, IsFollowed, with_over, truths_stand, live_true}
 use Rattle.search_laws.proofs.RoundLemmas.{new_live, new_fits, all_followed}
 
@@ -140,8 +139,7 @@ refuted keeps rounds formulas now order ends =
       stand = order.stand;
       foralls_are = refl;
       over = exact_over formulas rows (truths_stand rows order.terms) order.stand now refl order.exactly;
-    }) in
-    (
+    }) in (
       path.pairs,
       record {
         instances = path.are_pairs;

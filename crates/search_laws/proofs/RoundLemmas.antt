@@ -1,11 +1,10 @@
 -- A round of instances: each of them is a pair, and a world that fits before it and obeys these fits after it.
 use Rattle.std.proofs.Common.{◌≡◌, ℕ, ◌<◌, ◌≤◌, true, false, IsTrue, List, [], ◌∷◌, ◌++◌, length, map, slice_get, Some}
-use Rattle.std.proofs.Common.{All, Contains, refl, sym, ap, ap₂, subst, ◌∙◌, ⊎_elim, append-nil, append_assoc, arith}
-use Rattle.std.specs.List.{filter_map}
+use Rattle.std.proofs.Common.{All, Contains, refl, sym, ap, subst, ◌∙◌, ⊎_elim, append-nil, append_assoc, arith}
 use Rattle.std.specs.Option.{option_map_or}
 use Rattle.std.proofs.lemmas.Option.{none-some, same_Some, slice_get_within}
 use Rattle.std.proofs.lemmas.List.{map-append, length-append}
-use Rattle.std.proofs.lemmas.List.Elements.{All-nil, All-cons, All-weaker, All-contains, All-contains_itself}
+use Rattle.std.proofs.lemmas.List.Elements.{All-nil, All-cons, All-weaker}
 use Rattle.std.proofs.lemmas.List.Elements.{Contains-append_cases, filter_map-append}
 use Rattle.graph_terms.specs.declared.term_row.TermRow.{TermRow}
 use Rattle.graph_terms.specs.Terms.{term_row, first_rows, IsTable}
@@ -26,7 +25,7 @@ use Rattle.formula_table.specs.declared.table_forall.TableForall.{TableForall}
 use Rattle.formula_table.specs.Formulas.{Formulas, IsFormulaTable, NodesStand}
 use Rattle.formula_table.specs.Instance.{HasVariables, EntersInstance}
 use Rattle.formula_table.specs.EntryLaw.{StandsAfterEntry}
-use Rattle.formula_value.specs.Holds.{HasNode, Holds}
+use Rattle.formula_value.specs.Holds.{HasNode}
 use Rattle.formula_assert.specs.Held.{Held, held, triggers_at, operations_of}
 use Rattle.formula_assert.specs.Exactly.{operations_in}
 use Rattle.search_laws.specs.Branch.{Branch}
@@ -35,12 +34,12 @@ use Rattle.search_laws.specs.Rounds.{EntersOne, EntersAll, graph_in}
 use Rattle.search_laws.specs.Rounds as rounds
 use Rattle.search_laws.specs.Assignment.{Assignment, IsAssignment}
 use Rattle.search_laws.specs.Pairs.{Pair, IsInstanceOf, Obeys}
-use Rattle.search_laws.proofs.Places.{contains_none, contains_one, contains_head, contains_later, contains_cases}
-use Rattle.search_laws.proofs.Places.{contains_at, place_of, stands_below, map_keeps, map_from, filter_map_from}
+use Rattle.search_laws.proofs.Places.{contains_none, contains_one, contains_head, contains_later}
+use Rattle.search_laws.proofs.Places.{place_of, stands_below, map_keeps, map_from, filter_map_from}
 use Rattle.search_laws.proofs.Places.{with_more}
-use Rattle.search_laws.proofs.GraphLemmas.{merge_stands, differ_stands}
-use Rattle.search_laws.proofs.FormulaLemmas.{IsLeaf, holds_leaf}
-use Rattle.search_laws.proofs.Worlds.{World, IsWorld, IsTrueAt, IsTrueIn, IsNotTrueIn, IsTrueOp, true_of_leaves}
+use Rattle.search_laws.proofs.GraphLemmas.{merge_stands}
+use Rattle.search_laws.proofs.FormulaLemmas.{holds_leaf}
+use Rattle.search_laws.proofs.Worlds.{World, IsWorld, IsTrueIn, IsNotTrueIn, IsTrueOp, true_of_leaves}
 use Rattle.search_laws.proofs.Totals.{world_of, is_world, true_in}
 use Rattle.search_laws.proofs.GrownLemmas.{AgreeBelow, EndsStand, at_front, worlds_agree, operation_moves, true_moves}
 use Rattle.search_laws.proofs.GrownLemmas.{not_true_moves}
@@ -274,8 +273,7 @@ module _ (start formulas : Formulas) (rows : List TermRow) (now : Held) (way : I
         let place = place_of (quantified.0).triggers new.trigger
         (subst (λ list. Contains list new.trigger) triggers_are of_forall.2) in
         let is_trigger = (way.table.foralls forall quantified.0 quantified.1).triggers place.0 new.trigger place.1 in
-        let here : forall ≡ instance.forall = sym is_trigger.forall_is ∙ new.of_forall in
-        (
+        let here : forall ≡ instance.forall = sym is_trigger.forall_is ∙ new.of_forall in (
           record { n = h.n; asserted = h.asserted; has = subst (λ f. HasNode formulas.nodes h.n (Forall f)) here has },
           record {
             variables = (

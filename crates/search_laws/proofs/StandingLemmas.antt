@@ -1,5 +1,5 @@
 -- What is held names terms that stand, and each live trigger comes from an asserted forall: as long as the search goes.
-use Rattle.std.proofs.Common.{◌≡◌, ℕ, ◌<◌, true, false, List, [], ◌∷◌, ◌++◌, length, All, Contains, refl, sym, subst}
+use Rattle.std.proofs.Common.{◌≡◌, ℕ, ◌<◌, true, false, List, [], ◌∷◌, ◌++◌, length, All, Contains, subst}
 use Rattle.std.proofs.Common.{◌∙◌, ⊎_elim, arith}
 use Rattle.std.proofs.lemmas.List.Elements.{All-contains, Contains-append_left, Contains-append_cases, Contains-push}
 use Rattle.graph_terms.specs.declared.term_row.TermRow.{TermRow}
@@ -17,7 +17,7 @@ use Rattle.formula_assert.specs.Held.{Held, held, triggers_at, operations_of, re
 use Rattle.formula_assert.specs.Asserts.{Asserts, AssertsAll}
 use Rattle.formula_assert.specs.Asserts as asserting
 use Rattle.formula_assert.specs.Exactly.{HoldsExactly, IsOfAsserted, operations_in}
-use Rattle.search_laws.specs.Branch.{Branch, with_held, with_struck}
+use Rattle.search_laws.specs.Branch.{Branch, with_struck}
 use Rattle.search_laws.specs.Closing.{Closes}
 use Rattle.search_laws.specs.Closing as closing
 use Rattle.search_laws.proofs.Places.{contains_none, contains_one, contains_head, contains_later, with_more}
