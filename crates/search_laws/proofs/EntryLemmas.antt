@@ -117,9 +117,10 @@ module _ (forall : ℕ) (tuple : List ℕ) (rows later : List TermRow) (limit : 
           stands = at;
           node_is = refl;
         }) in
-        subst (λ foralls. HasNode new.nodes (slice_index numbers k) (entered_node terms foralls numbers node)) no_numbers
-        (subst (λ nodes. HasNode nodes (slice_index numbers k) (entered_node terms grows.forall_numbers numbers node))
-        (sym nodes_are) entered)
+        let number : ℕ = slice_index numbers k in
+        subst (λ foralls. HasNode new.nodes number (entered_node terms foralls numbers node)) no_numbers
+        (subst (λ nodes. HasNode nodes number (entered_node terms grows.forall_numbers numbers node)) (sym nodes_are)
+        entered)
 
     pub is_instance : (start : Formulas) → old.foralls ≡ start.foralls → IsInstanceOf start
         (record { forall = forall; tuple = tuple; rows = later; nodes = new.nodes; node = root })

@@ -135,9 +135,11 @@ module _ (nodes more : List Node) where
   everywhere_grows moves (truth.Everywhere.literal {n} {node} at h) =
       truth.Everywhere.literal (at_front nodes more n node at) (moves n node at h)
   everywhere_grows moves (truth.Everywhere.conjunction {n} {parts} at each) =
-      truth.Everywhere.conjunction (at_front nodes more n (And parts) at) (λ part c. everywhere_grows moves (each part c))
+      truth.Everywhere.conjunction (at_front nodes more n (And parts) at)
+      (λ part c. everywhere_grows moves (each part c))
   everywhere_grows moves (truth.Everywhere.disjunction {n} {parts} at each) =
-      truth.Everywhere.disjunction (at_front nodes more n (Or parts) at) (λ part c. everywhere_grows moves (each part c))
+      truth.Everywhere.disjunction (at_front nodes more n (Or parts) at)
+      (λ part c. everywhere_grows moves (each part c))
 
   pub holds_grows : {leaf later : Node → Type 0} →
       ((n : ℕ) (node : Node) → HasNode nodes n node → leaf node → later node) → {n : ℕ} → Holds nodes leaf n →

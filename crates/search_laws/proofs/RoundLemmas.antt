@@ -358,8 +358,8 @@ module _ (keeps : EntryKeeps) (start : Formulas) where
       variables stand in
       let did : Adds added (graph_in before) one.entered = subst (Adds added (graph_in before))
       (sym enters.enters.rows_grow.grew) (adds (graph_in before) added) in
-      let over = grown_over before.formulas after.formulas more nodes foralls rows added before.branch.held one.entered did
-      way.over in
+      let over = grown_over before.formulas after.formulas more nodes foralls rows added before.branch.held
+      one.entered did way.over in
       record {
         added = added;
         way = record {
@@ -374,15 +374,17 @@ module _ (keeps : EntryKeeps) (start : Formulas) where
             variables stand table start way.foralls_are;
         fits = λ given is live obeys fits.
             let agree = worlds_agree given rows added way.terms (truths_stand rows way.terms) in
+            let now : Held = before.branch.held in
+            let world = world_of given rows in
+            let other = world_of given later in
             record {
-              held = asserts_fits after.formulas (world_of given later) one.asserts
-                  (grown_fits before.formulas after.formulas more nodes foralls rows added before.branch.held one.entered
-                  did way.over (world_of given rows) (world_of given later) agree way.stand
-                  (is_world given later table is) fits.held)
+              held = asserts_fits after.formulas other one.asserts
+                  (grown_fits before.formulas after.formulas more nodes foralls rows added now one.entered did way.over
+                  world other agree way.stand (is_world given later table is) fits.held)
                   (true_in given later table is after.formulas.nodes one.root (obeys live));
-              struck = λ n place c. grown_struck before.formulas after.formulas more nodes foralls rows added
-                  before.branch.held one.entered did way.over (world_of given rows) (world_of given later) agree way.stand
-                  n place (fits.struck n place (subst (λ list. Contains list (n, place)) one.struck_is c));
+              struck = λ n place c. grown_struck before.formulas after.formulas more nodes foralls rows added now
+                  one.entered did way.over world other agree way.stand n place
+                  (fits.struck n place (subst (λ list. Contains list (n, place)) one.struck_is c));
             };
       }
 
@@ -398,7 +400,8 @@ module _ (keeps : EntryKeeps) (start : Formulas) where
     fits = λ given is live obeys fits. fits;
   }
   all_followed (rounds.more {instance} {instances} {before} {between} {after} one others) rows way fitting =
-      let first = one_followed instance rows before between one way (fitting instance (contains_head instance instances)) in
+      let first = one_followed instance rows before between one way
+      (fitting instance (contains_head instance instances)) in
       let rest = all_followed others (rows ++ first.added) first.way (λ other c. fitting_later start (length rows)
       (length (rows ++ first.added)) other
       (let long = length-append rows first.added in omega (arith, long))

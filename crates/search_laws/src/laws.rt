@@ -11,8 +11,8 @@ pub fn one_verdict_law()
     asserts_law();
 }
 
-/// Where the search of what is held ends without a way out, finitely many instances of foralls refute what is asserted: no
-/// finite assignment satisfies it and obeys each of them.
+/// Where the search of what is held ends without a way out, finitely many instances of foralls refute what is asserted:
+/// no finite assignment satisfies it and obeys each of them.
 pub fn unsat_law()
     ensures { UnsatRefutes }
 {
