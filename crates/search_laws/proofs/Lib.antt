@@ -5,6 +5,10 @@ pub mod GraphLemmas
 pub mod Worlds
 pub mod FitLemmas
 pub mod Totals
+pub mod GrownLemmas
+pub mod StandingLemmas
+pub mod EntryLemmas
+pub mod RoundLemmas
 pub mod RefuteLemmas
 pub mod CompleteLemmas
 pub mod LiveLemmas

@@ -2,6 +2,7 @@
 ghost use Rattle.search_laws.specs.Laws.{HasOneVerdict, UnsatRefutes, SatSatisfies, OpensForACause};
 
 use formula_assert::laws::asserts_law;
+use formula_table::laws::entry_law;
 
 /// The search of a branch ends in one way.
 pub fn one_verdict_law()
@@ -10,10 +11,13 @@ pub fn one_verdict_law()
     asserts_law();
 }
 
-/// Where the search of what is held ends without a way out, no finite assignment satisfies what is asserted.
+/// Where the search of what is held ends without a way out, finitely many instances of foralls refute what is asserted:
+/// no finite assignment satisfies it and obeys each of them.
 pub fn unsat_law()
     ensures { UnsatRefutes }
-{}
+{
+    entry_law();
+}
 
 /// Where the search ends with a way out, the leaders of its terms make an assignment that satisfies what is asserted.
 pub fn sat_law()
