@@ -1,5 +1,7 @@
 pub mod Places
 pub mod FormulaLemmas
+pub mod SoundLemmas
+pub mod EntryOnce
 pub mod OnceLemmas
 pub mod GraphLemmas
 pub mod Worlds

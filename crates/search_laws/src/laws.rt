@@ -3,12 +3,14 @@ ghost use Rattle.search_laws.specs.Laws.{HasOneVerdict, UnsatRefutes, SatSatisfi
 
 use formula_assert::laws::asserts_law;
 use formula_table::laws::entry_law;
+use match_store::laws::new_law;
 
-/// The search of a branch ends in one way.
+/// The search of what is held ends in one way.
 pub fn one_verdict_law()
     ensures { HasOneVerdict }
 {
     asserts_law();
+    new_law();
 }
 
 /// Where the search of what is held ends without a way out, finitely many instances of foralls refute what is asserted:
