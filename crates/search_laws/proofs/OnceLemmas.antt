@@ -17,14 +17,14 @@ use Rattle.search_laws.specs.Branch.{Branch, with_held, with_struck, live_in}
 use Rattle.search_laws.specs.Closing.{IsAssertedOr, IsLeftOver, IsUnit, IsFirstUnit, Closes, IsOpen, IsSplit}
 use Rattle.search_laws.specs.Closing.{HasNoOpen}
 use Rattle.search_laws.specs.Closing as closing
-use Rattle.search_laws.specs.Path.{Path, first_path, with_branch, after_round}
+use Rattle.search_laws.specs.Path.{Path, with_branch, after_round}
 use Rattle.search_laws.specs.Rounds.{graph_in, AreNewIn, EntersAll, Overflows}
 use Rattle.search_laws.specs.Verdict.{Ending, unsat, sat, settled, rounds_spent, refused, Verdict}
 use Rattle.search_laws.specs.Verdict.{IsQuiet, IsDecided, IsUndecided}
 use Rattle.search_laws.specs.Verdict as verdict
 use Rattle.search_laws.specs.Laws.{HasOneVerdict}
 use Rattle.search_laws.proofs.FormulaLemmas.{one_node, same_ors}
-use Rattle.search_laws.proofs.SoundLemmas.{IsSound, IsSoundPath, sound_start, sound_asserts, sound_struck}
+use Rattle.search_laws.proofs.SoundLemmas.{IsSoundPath, sound_start, sound_asserts, sound_struck}
 use Rattle.search_laws.proofs.SoundLemmas.{sound_closes, new_over}
 use Rattle.search_laws.proofs.EntryOnce.{AssertsOnce, AreOverPath, all_once, all_not_stopped, stops_of}
 use Rattle.search_laws.proofs.EntryOnce.{stops_all_once, all_sound}

@@ -1,6 +1,6 @@
 -- What stays true on the way of a search: terms and formulas are tables, equations are between terms that stand, and
 -- each live trigger is one of a forall.
-use Rattle.std.proofs.Common.{◌≡◌, ℕ, ◌<◌, ◌≤◌, true, false, List, [], ◌∷◌, ◌++◌, length, map, slice_get, Some, All}
+use Rattle.std.proofs.Common.{◌≡◌, ℕ, ◌<◌, true, false, List, [], ◌∷◌, length, slice_get, Some, All}
 use Rattle.std.proofs.Common.{Contains, refl, sym, ap, subst, ◌∙◌, arith}
 use Rattle.std.specs.Option.{option_map_or}
 use Rattle.std.proofs.lemmas.Option.{none-some, same_Some, slice_get_within}
@@ -19,15 +19,13 @@ use Rattle.match_store.specs.declared.instance.Instance.{Instance}
 use Rattle.match_store.specs.New.{IsNew}
 use Rattle.formula_table.specs.declared.node.Node.{Node}
 use Rattle.formula_table.specs.declared.node.Node.TheVariants.{Equal, Atom, And, Or, Forall}
-use Rattle.formula_table.specs.declared.table_forall.TableForall.{TableForall}
 use Rattle.formula_table.specs.Formulas.{Formulas, IsFormulaTable, NodesStand}
 use Rattle.formula_table.specs.Instance.{HasVariables}
-use Rattle.formula_table.specs.Node.{terms_in}
 use Rattle.formula_value.specs.Holds.{HasNode}
 use Rattle.formula_assert.specs.Held.{Held, triggers_at, operations_of, refuting_of}
 use Rattle.formula_assert.specs.Asserts.{Asserts, AssertsAll}
 use Rattle.formula_assert.specs.Asserts as asserting
-use Rattle.formula_assert.specs.Exactly.{operations_in, IsOfAsserted, HoldsExactly}
+use Rattle.formula_assert.specs.Exactly.{operations_in, IsOfAsserted}
 use Rattle.search_laws.specs.Branch.{Branch}
 use Rattle.search_laws.specs.Closing.{Closes}
 use Rattle.search_laws.specs.Closing as closing
@@ -77,8 +75,7 @@ module _ (formulas : Formulas) (count : ℕ) (table : IsFormulaTable formulas) (
       let triggers : triggers_at formulas.foralls forall ≡ (found.0).triggers =
       ap (λ item. option_map_or (λ quantified. quantified.triggers) item []) found.1 in
       let place = place_of (found.0).triggers trigger (subst (λ list. Contains list trigger) triggers c) in
-      let is = (table.foralls forall found.0 found.1).triggers place.0 trigger place.1 in
-      (
+      let is = (table.foralls forall found.0 found.1).triggers place.0 trigger place.1 in (
         found.0,
         subst (λ n. slice_get formulas.foralls n ≡ Some found.0) (sym is.forall_is) found.1,
         sym is.variables_are,
