@@ -36,6 +36,7 @@ told_given now old new fresh tells = record {
   kinds = kinds;
   parts = tells.parts ∙ fresh.parts;
   leaf = tells.told;
+  foralls = tells.foralls;
   asserted = λ n stands. tells.asserted n (subst (λ (count : ℕ). n < count) (sym many) stands);
   struck_are = λ n place stands. (
     λ on. absurd (not_struck n place stands on),
@@ -54,13 +55,12 @@ told_given now old new fresh tells = record {
 
 -- the values are right where all was told
 pub right_start : (now : Assertions) (fresh : Given) (values : BranchValues) → IsFormulaTable now.formulas →
-    now.formulas.foralls ≡ [] → (IsTrue values.lost ↔ HasClash now.graph.standing) →
+    (IsTrue values.lost ↔ HasClash now.graph.standing) →
     AreFresh now.formulas.nodes fresh → TellsAll now fresh (given_of values.values) →
     Serves (service now.graph.standing (ends_of 0 now.formulas.nodes) (length now.formulas.nodes)) values.watch →
     AreValuesOf now [] values
-right_start now fresh values table ground lost are_fresh tells serves = record {
+right_start now fresh values table lost are_fresh tells serves = record {
   table = table;
-  ground = ground;
   lost = lost;
   current = λ _. record { given = told_given now fresh (given_of values.values) are_fresh tells; serves = serves };
 }

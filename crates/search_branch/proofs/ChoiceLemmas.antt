@@ -1,5 +1,5 @@
 -- Units, open and stuck disjunctions by what is given are those in the branch.
-use Rattle.std.proofs.Common.{◌≡◌, ℕ, ◌<◌, Bool, true, false, List, [], length, Contains, refl, sym, subst}
+use Rattle.std.proofs.Common.{◌≡◌, ℕ, ◌<◌, Bool, true, false, List, length, Contains, refl, sym, subst}
 use Rattle.std.proofs.lemmas.Option.{slice_get-get_or, slice_get_within, get_or_from_slice_get}
 use Rattle.std.proofs.lemmas.List.Elements.{Contains-get_or}
 use Rattle.formula_table.specs.declared.node.Node.TheVariants.{Or}
@@ -141,37 +141,36 @@ module _ (formulas : Formulas) (branch : Branch) (given : Given) (table : IsForm
         (below formulas branch given table is n found.0 (stands n (or_from n parts is_or).is_or) found.1) found.2,
   )
 
-  module _ (ground : formulas.foralls ≡ []) where
-    no_yes_to : (n : ℕ) → by_nodes.HasNoYesPart given n → HasNoYesPart formulas branch (parts_of given n)
-    no_yes_to n none part among known =
-        let at = among_place formulas branch given table is n part (parts_of given n) refl among in
-        none at.0 at.1 (subst (HasYes given) (sym at.2) (yes_from formulas branch given table is ground known))
+  no_yes_to : (n : ℕ) → by_nodes.HasNoYesPart given n → HasNoYesPart formulas branch (parts_of given n)
+  no_yes_to n none part among known =
+      let at = among_place formulas branch given table is n part (parts_of given n) refl among in
+      none at.0 at.1 (subst (HasYes given) (sym at.2) (yes_from formulas branch given table is known))
 
-    -- a unit by what is given is one in the branch
-    unit_to : (n i : ℕ) → by_nodes.IsUnit given n i → IsUnit formulas branch n (part_of given n i)
-    unit_to n i unit = record {
-      parts = parts_of given n;
-      place = i;
-      is_or = or_to n unit.is_or;
-      no_yes = no_yes_to n unit.no_yes;
-      left = left_to n unit.is_or.is_or i unit.left;
-      only = λ j part other. unit.only j (left_from n unit.is_or.is_or j part other);
-      not_asserted = asserted_to n unit.is_or.is_or i unit.left.place unit.not_asserted;
-    }
+  -- a unit by what is given is one in the branch
+  unit_to : (n i : ℕ) → by_nodes.IsUnit given n i → IsUnit formulas branch n (part_of given n i)
+  unit_to n i unit = record {
+    parts = parts_of given n;
+    place = i;
+    is_or = or_to n unit.is_or;
+    no_yes = no_yes_to n unit.no_yes;
+    left = left_to n unit.is_or.is_or i unit.left;
+    only = λ j part other. unit.only j (left_from n unit.is_or.is_or j part other);
+    not_asserted = asserted_to n unit.is_or.is_or i unit.left.place unit.not_asserted;
+  }
 
-    pub first_unit_to : (n i : ℕ) → by_nodes.IsFirstUnit given n i →
-        IsFirstUnit formulas branch n (part_of given n i)
-    first_unit_to n i first = record {
-      is_unit = unit_to n i first.is_unit;
-      first = λ m part less unit. let other = unit_from m part unit in first.first m other.0 less other.1;
-    }
+  pub first_unit_to : (n i : ℕ) → by_nodes.IsFirstUnit given n i →
+      IsFirstUnit formulas branch n (part_of given n i)
+  first_unit_to n i first = record {
+    is_unit = unit_to n i first.is_unit;
+    first = λ m part less unit. let other = unit_from m part unit in first.first m other.0 less other.1;
+  }
 
-    -- the split by what is given is that in the branch
-    pub split_to : (n i : ℕ) → by_nodes.IsSplit given n i → IsSplit formulas branch n i (part_of given n i)
-    split_to n i split = record {
-      parts = parts_of given n;
-      is_open = (or_to n split.is_open.is_or, no_yes_to n split.is_open.no_yes);
-      first = λ m parts less other. split.first m less (open_from m parts other);
-      left = left_to n split.is_open.is_or.is_or i split.left;
-      first_left = λ j part less other. split.first_left j less (left_from n split.is_open.is_or.is_or j part other);
-    }
+  -- the split by what is given is that in the branch
+  pub split_to : (n i : ℕ) → by_nodes.IsSplit given n i → IsSplit formulas branch n i (part_of given n i)
+  split_to n i split = record {
+    parts = parts_of given n;
+    is_open = (or_to n split.is_open.is_or, no_yes_to n split.is_open.no_yes);
+    first = λ m parts less other. split.first m less (open_from m parts other);
+    left = left_to n split.is_open.is_or.is_or i split.left;
+    first_left = λ j part less other. split.first_left j less (left_from n split.is_open.is_or.is_or j part other);
+  }

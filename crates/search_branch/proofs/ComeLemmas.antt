@@ -27,7 +27,8 @@ use Rattle.search_watch.specs.Back.{CanGoBack}
 use Rattle.search_watch.specs.Service.{Service, Serves, ServesNow, HasClash, FindsChanges, service, where_stands}
 use Rattle.search_watch.specs.Follow.{IsBehind}
 use Rattle.search_branch.specs.declared.branch_values.BranchValues.{BranchValues}
-use Rattle.search_branch.specs.Given.{IsGivenBy, IsLeafTruth, ends_of, kind_in, parts_in}
+use Rattle.search_branch.specs.Given.{IsGivenBy, IsLeafTruth, AreForallValues, forall_truth}
+use Rattle.search_branch.specs.Given.{ends_of, kind_in, parts_in}
 use Rattle.search_branch.specs.Right.{AreCurrent, AreValuesOf}
 use Rattle.search_branch.specs.Levels.{IsLevelOver}
 use Rattle.search_branch.specs.Told.{AreToldBut, AreAsserted, TellsAll, HasCome}
@@ -85,6 +86,11 @@ module _ (was now : Assertions) (unions : List Union) (asserted differs : ℕ)
       subst (λ (list : List ℕ). ((given_of old.values).asserted n ≡ true) ↔ Contains list n) (sym come.asserted_are)
       (current.given.asserted n here)
 
+  -- and foralls are Yes just where they are
+  pub foralls_before : AreForallValues now.formulas.nodes (given_of old.values)
+  foralls_before = subst (λ (nodes : List Node). AreForallValues nodes (given_of old.values)) (sym same_nodes)
+      current.given.foralls
+
   -- what was found stands
   pub found_stands : (start found : List ℕ) → start ≡ [] →
       (All (λ (item : ℕ). item < length was.formulas.nodes) start →
@@ -117,7 +123,6 @@ module _ (was now : Assertions) (unions : List Union) (asserted differs : ℕ)
     right_where : (new.lost ≡ false → AreCurrent now.formulas (held_of now) struck new) → AreValuesOf now struck new
     right_where are = record {
       table = subst IsFormulaTable (sym come.formulas) right.table;
-      ground = ap (λ (formulas : Formulas). formulas.foralls) come.formulas ∙ right.ground;
       lost = subst (λ (list : List Done). IsTrue new.lost ↔ HasClash list) same says;
       current = are;
     }
@@ -139,6 +144,7 @@ module _ (was now : Assertions) (unions : List Union) (asserted differs : ℕ)
         kinds = kinds_now;
         parts = tells.parts ∙ current.given.parts ∙ ap (map parts_in) (sym same_nodes);
         leaf = tells.told;
+        foralls = tells.foralls;
         asserted = λ n within. tells.asserted n
             (subst (λ (count : ℕ). n < count) (sym many_now) within);
         struck_are = λ n place within.
@@ -260,7 +266,6 @@ module _ (now : Assertions) (struck : List (ℕ × ℕ)) (old new : BranchValues
   pub right_struck : AreValuesOf now struck old → AreValuesOf now (struck ++ (node, place) ∷ []) new
   right_struck right = record {
     table = right.table;
-    ground = right.ground;
     lost = (λ is. right.lost.0 (sym lost ∙ is), λ clash. lost ∙ right.lost.1 clash);
     current = λ calm.
         let current = right.current (sym lost ∙ calm) in
@@ -270,6 +275,8 @@ module _ (now : Assertions) (struck : List (ℕ × ℕ)) (old new : BranchValues
             parts = strikes.parts ∙ current.given.parts;
             leaf = λ n leaf has. subst (λ (truth : Truth). IsLeafTruth now.graph.standing leaf truth)
                 (sym (strikes.leaf n)) (current.given.leaf n leaf has);
+            foralls = λ n forall has. strikes.leaf n ∙ current.given.foralls n forall has
+                ∙ ap forall_truth (sym (strikes.asserted n));
             asserted = λ n within.
                 let was = current.given.asserted n within in
                 (λ on. was.0 (sym (strikes.asserted n) ∙ on), λ on. strikes.asserted n ∙ was.1 on);

@@ -1,5 +1,5 @@
 -- What the value of a leaf says of what is known.
-use Rattle.std.proofs.Common.{◌≡◌, ℕ, true, false, List, refl}
+use Rattle.std.proofs.Common.{◌≡◌, ℕ, true, false, List, Contains, refl}
 use Rattle.graph_meaning.specs.declared.done.Done.{Done}
 use Rattle.graph_meaning.specs.Same.{Same}
 use Rattle.graph_meaning.specs.Known.{known_of}
@@ -53,37 +53,40 @@ module _ (standing : List Done) where
 
   module _ (live : List ℕ) where
     -- a leaf whose value is Yes is known to be true
-    pub leaf_yes_to : (node : Node) → IsLeafTruth standing node Yes → IsYesLeaf (known_of standing) live node
-    leaf_yes_to (Equal true s t) is = is
-    leaf_yes_to (Equal false s t) is = record { not_same = is.0; kept = is.1 }
-    leaf_yes_to (Atom true term) is = is
-    leaf_yes_to (Atom false term) is = record { not_true = is.0; same = is.1 }
-    leaf_yes_to (And parts) is = cc
-    leaf_yes_to (Or parts) is = cc
-    leaf_yes_to (Forall forall) is = cc
+    pub leaf_yes_to : (node : Node) → ((forall : ℕ) → node ≡ Forall forall → Contains live forall) →
+        IsLeafTruth standing node Yes → IsYesLeaf (known_of standing) live node
+    leaf_yes_to (Equal true s t) listed is = is
+    leaf_yes_to (Equal false s t) listed is = record { not_same = is.0; kept = is.1 }
+    leaf_yes_to (Atom true term) listed is = is
+    leaf_yes_to (Atom false term) listed is = record { not_true = is.0; same = is.1 }
+    leaf_yes_to (And parts) listed is = cc
+    leaf_yes_to (Or parts) listed is = cc
+    leaf_yes_to (Forall forall) listed is = listed forall refl
 
     -- one whose value is No is known to be false
-    pub leaf_no_to : (node : Node) → IsLeafTruth standing node No → IsNoLeaf (known_of standing) live node
-    leaf_no_to (Equal true s t) is = record { not_same = is.0; kept = is.1 }
-    leaf_no_to (Equal false s t) is = is
-    leaf_no_to (Atom true term) is = record { not_true = is.0; same = is.1 }
-    leaf_no_to (Atom false term) is = is
-    leaf_no_to (And parts) is = cc
-    leaf_no_to (Or parts) is = cc
-    leaf_no_to (Forall forall) is = cc
+    pub leaf_no_to : (node : Node) → ((forall : ℕ) → node ≡ Forall forall → ⊥) → IsLeafTruth standing node No →
+        IsNoLeaf (known_of standing) live node
+    leaf_no_to (Equal true s t) other is = record { not_same = is.0; kept = is.1 }
+    leaf_no_to (Equal false s t) other is = is
+    leaf_no_to (Atom true term) other is = record { not_true = is.0; same = is.1 }
+    leaf_no_to (Atom false term) other is = is
+    leaf_no_to (And parts) other is = cc
+    leaf_no_to (Or parts) other is = cc
+    leaf_no_to (Forall forall) other is = other forall refl
 
-    -- a literal that is known to be true has the value Yes
-    pub leaf_yes_from : (node : Node) (truth : Truth) → ((forall : ℕ) → node ≡ Forall forall → ⊥) →
+    -- a leaf that is known to be true has the value Yes
+    pub leaf_yes_from : (node : Node) (truth : Truth) →
+        ((forall : ℕ) → node ≡ Forall forall → Contains live forall → truth ≡ Yes) →
         IsLeafTruth standing node truth → IsYesLeaf (known_of standing) live node → truth ≡ Yes
-    leaf_yes_from (Equal true s t) truth ground is known = equation_yes s t truth is known
-    leaf_yes_from (Equal false s t) truth ground is known =
+    leaf_yes_from (Equal true s t) truth listed is known = equation_yes s t truth is known
+    leaf_yes_from (Equal false s t) truth listed is known =
         turned_no truth (equation_no s t (turn_of false truth) is known.not_same known.kept)
-    leaf_yes_from (Atom true term) truth ground is known = atom_yes term truth is known
-    leaf_yes_from (Atom false term) truth ground is known =
+    leaf_yes_from (Atom true term) truth listed is known = atom_yes term truth is known
+    leaf_yes_from (Atom false term) truth listed is known =
         turned_no truth (atom_no term (turn_of false truth) is known.not_true known.same)
-    leaf_yes_from (And parts) truth ground is known = absurd known
-    leaf_yes_from (Or parts) truth ground is known = absurd known
-    leaf_yes_from (Forall forall) truth ground is known = absurd (ground forall refl)
+    leaf_yes_from (And parts) truth listed is known = absurd known
+    leaf_yes_from (Or parts) truth listed is known = absurd known
+    leaf_yes_from (Forall forall) truth listed is known = listed forall refl known
 
     -- one that is known to be false has the value No
     pub leaf_no_from : (node : Node) (truth : Truth) → IsLeafTruth standing node truth →

@@ -77,7 +77,6 @@ module _ (before now : BranchValues) (over : IsLevelOver before now) (marks : Li
         let current = right.current calm in
         record {
           table = right.table;
-          ground = right.ground;
           lost = (λ lost. right.lost.0 (calm ∙ sym found ∙ lost), λ clash. found ∙ sym calm ∙ right.lost.1 clash);
           current = λ same. record {
             given = subst (IsGivenBy stood.formulas (held_of stood) struck) (sym given_back) current.given;

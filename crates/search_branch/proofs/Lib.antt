@@ -12,3 +12,5 @@ pub mod FollowLemmas
 pub mod ComeLemmas
 pub mod ToldLemmas
 pub mod BranchLemmas
+pub mod ForallLemmas
+pub mod AssertLemmas

@@ -79,7 +79,7 @@ module _ (standing : List Done) (nodes : List Node) (given : Given) (n : ℕ)
       absurd (set_leaf_has given n truth (kind_at_node nodes given n (Atom positive term) kinds has) value set unset)
   stays_right truth (And parts) has value set (inr unset) = unset
   stays_right truth (Or parts) has value set (inr unset) = unset
-  stays_right truth (Forall forall) has value set (inr unset) = unset
+  stays_right truth (Forall forall) has value set (inr unset) = tt
 
   -- nothing is set anew
   same_leaf : SetsLeaf n (given.leaf n) given given
@@ -99,4 +99,5 @@ module _ (standing : List Done) (nodes : List Node) (given : Given) (n : ℕ)
     truth = given.leaf n;
     sets = same_leaf;
     right = λ node has or. stays_right truth node has value set or;
+    stays = λ forall has. refl;
   }

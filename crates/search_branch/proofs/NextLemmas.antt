@@ -1,5 +1,5 @@
 -- The next step by what is given is that in the branch.
-use Rattle.std.proofs.Common.{◌≡◌, ℕ, ◌<◌, inl, inr, [], length}
+use Rattle.std.proofs.Common.{ℕ, ◌<◌, inl, inr, length}
 use Rattle.formula_table.specs.Formulas.{Formulas, IsFormulaTable}
 use Rattle.search_values.specs.Given as by_nodes
 use Rattle.search_values.specs.Given.{Given, part_of}
@@ -31,7 +31,7 @@ module _ (formulas : Formulas) (branch : Branch) (given : Given) (table : IsForm
   split_within n i split = below formulas branch given table is n i
       (stands formulas branch given table is n split.is_open.is_or.is_or) split.left.place
 
-  module _ (ground : formulas.foralls ≡ []) (no_clash : HasClash branch.held.graph.standing → ⊥)
+  module _ (no_clash : HasClash branch.held.graph.standing → ⊥)
       (no_stuck : (n : ℕ) → by_nodes.IsStuck given n → ⊥) where
     -- without a clash there is a conflict only where a disjunction is stuck
     no_conflict : HasNoConflict formulas branch
@@ -41,7 +41,7 @@ module _ (formulas : Formulas) (branch : Branch) (given : Given) (table : IsForm
         no_stuck n (stuck_from formulas branch given table is n parts is_or none)
 
     pub assert_is : (n i : ℕ) → by_nodes.IsFirstUnit given n i → IsStep formulas branch (Assert (part_of given n i))
-    assert_is n i first = (no_conflict, n, first_unit_to formulas branch given table is ground n i first)
+    assert_is n i first = (no_conflict, n, first_unit_to formulas branch given table is n i first)
 
     module _ (no_unit : (n i : ℕ) → by_nodes.IsUnit given n i → ⊥) where
       none_unit : HasNoUnit formulas branch
@@ -49,7 +49,7 @@ module _ (formulas : Formulas) (branch : Branch) (given : Given) (table : IsForm
           no_unit n found.0 found.1
 
       pub split_is : (n i : ℕ) → by_nodes.IsSplit given n i → IsStep formulas branch (Split n i (part_of given n i))
-      split_is n i split = (no_conflict, none_unit, split_to formulas branch given table is ground n i split)
+      split_is n i split = (no_conflict, none_unit, split_to formulas branch given table is n i split)
 
       -- where each disjunction has a Yes part none is open
       pub way_out_is : ((n : ℕ) → by_nodes.IsAssertedOr given n → by_nodes.HasYesPart given n) →

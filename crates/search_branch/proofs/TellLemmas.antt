@@ -5,6 +5,7 @@ use Rattle.std.proofs.lemmas.Bool.{cases_eq}
 use Rattle.std.proofs.lemmas.List.{drop_more}
 use Rattle.graph_meaning.specs.declared.done.Done.{Done}
 use Rattle.formula_table.specs.declared.node.Node.{Node}
+use Rattle.formula_table.specs.declared.node.Node.TheVariants.{Forall}
 use Rattle.formula_truth.specs.declared.truth.Truth.{Truth}
 use Rattle.formula_truth.specs.declared.truth.Truth.TheVariants.{Unset}
 use Rattle.formula_value.specs.Holds.{HasNode}
@@ -14,10 +15,17 @@ use Rattle.search_branch.specs.Told.{KeepsNodes, TellsLeaf, AreToldBut}
 
 -- what is kept is kept where one leaf more is told
 pub keeps_more : (standing : List Done) (nodes : List Node) (n : ℕ) (first second third : Given) →
-    KeepsNodes first second → TellsLeaf standing nodes n second third → KeepsNodes first third
+    KeepsNodes nodes first second → TellsLeaf standing nodes n second third → KeepsNodes nodes first third
 keeps_more standing nodes n first second third keeps tells = record {
   kinds = tells.sets.kinds ∙ keeps.kinds;
   parts = tells.sets.parts ∙ keeps.parts;
+  foralls = λ m forall has. elim (cases_eq m n) [
+    | inl same ↦
+        ap third.leaf same ∙ tells.sets.here
+        ∙ tells.stays forall (subst (λ (k : ℕ). HasNode nodes k (Forall forall)) same has)
+        ∙ ap second.leaf (sym same) ∙ keeps.foralls m forall has
+    | inr other ↦ tells.sets.others m other ∙ keeps.foralls m forall has
+  ];
   asserted = λ m. tells.sets.asserted m ∙ keeps.asserted m;
   struck = λ m place. tells.sets.struck m place ∙ keeps.struck m place;
 }

@@ -1,5 +1,6 @@
 -- The values that are given are those in the branch.
-use Rattle.std.proofs.Common.{◌≡◌, ℕ, ◌<◌, List, [], length, Some, Contains, sym, ap, subst, ◌∙◌, arith}
+use Rattle.std.proofs.Common.{◌≡◌, ℕ, ◌<◌, List, length, Some, Contains, sym, ap, subst, ◌∙◌}
+use Rattle.std.proofs.lemmas.Option.{slice_get_within}
 use Rattle.std.proofs.lemmas.List.Elements.{Contains-get_or}
 use Rattle.formula_table.specs.declared.node.Node.{Node}
 use Rattle.formula_table.specs.declared.node.Node.TheVariants.{And, Or, Forall}
@@ -10,7 +11,8 @@ use Rattle.formula_value.specs.Holds as formulas_hold
 use Rattle.formula_value.specs.Holds.{HasNode}
 use Rattle.search_values.specs.Given.{Given, HasPlace, HasYes, HasNo, parts_of, part_of}
 use Rattle.search_laws.specs.Branch.{Branch, live_in, IsYesIn, IsNoIn}
-use Rattle.search_branch.specs.Given.{IsGivenBy, IsLeafTruth}
+use Rattle.search_branch.specs.Given.{IsGivenBy, IsLeafTruth, forall_truth}
+use Rattle.search_branch.proofs.ForallLemmas.{among_to, among_from, yes_is_asserted, never_no}
 use Rattle.search_branch.proofs.LeafLemmas.{leaf_yes_to, leaf_no_to, leaf_yes_from, leaf_no_from}
 use Rattle.search_branch.proofs.LeafLemmas.{yes_leaf_kind, no_leaf_kind}
 use Rattle.search_branch.proofs.NodeLemmas.{place_of, kind_is, parts_is, node_at, and_has, or_has, part_stands}
@@ -33,6 +35,32 @@ module _ (formulas : Formulas) (branch : Branch) (given : Given) (table : IsForm
       subst (λ (parts : List ℕ). Contains parts (part_of given n i)) same
       (Contains-get_or (parts_of given n) i 0 place)
 
+  -- a forall that is Yes is asserted, so it is live
+  forall_asserted : (n forall : ℕ) → HasNode formulas.nodes n (Forall forall) → given.leaf n ≡ Yes →
+      Contains branch.held.asserted n
+  forall_asserted n forall has value =
+      (is.asserted n (slice_get_within formulas.nodes n (Forall forall) has)).0
+      (yes_is_asserted (given.asserted n) (sym (is.foralls n forall has) ∙ value))
+
+  forall_yes_to : (n forall : ℕ) → HasNode formulas.nodes n (Forall forall) → given.leaf n ≡ Yes →
+      Contains (live_in formulas branch) forall
+  forall_yes_to n forall has value =
+      among_to formulas.nodes branch.held.asserted n forall (forall_asserted n forall has value) has
+
+  -- one that is live is asserted, since its node stands once, so it is Yes
+  forall_yes_from : (n forall : ℕ) → HasNode formulas.nodes n (Forall forall) →
+      Contains (live_in formulas branch) forall → given.leaf n ≡ Yes
+  forall_yes_from n forall has live =
+      let at = among_from formulas.nodes branch.held.asserted forall live in
+      let same = table.once at.0 n (Forall forall) at.2 has in
+      let listed = subst (λ (m : ℕ). Contains branch.held.asserted m) same at.1 in
+      is.foralls n forall has
+      ∙ ap forall_truth ((is.asserted n (slice_get_within formulas.nodes n (Forall forall) has)).1 listed)
+
+  -- none is No
+  forall_not_no : (n forall : ℕ) → HasNode formulas.nodes n (Forall forall) → given.leaf n ≡ No → ⊥
+  forall_not_no n forall has value = never_no (given.asserted n) (sym (is.foralls n forall has) ∙ value)
+
   -- a leaf by its value
   leaf_is : (n : ℕ) (node : Node) (truth : Truth) → HasNode formulas.nodes n node → given.leaf n ≡ truth →
       IsLeafTruth branch.held.graph.standing node truth
@@ -42,13 +70,13 @@ module _ (formulas : Formulas) (branch : Branch) (given : Given) (table : IsForm
   leaf_yes n within e =
       let node = node_at formulas branch.held branch.struck given is n within in
       formulas_hold.Holds.literal node.1 (leaf_yes_to branch.held.graph.standing (live_in formulas branch) node.0
-      (leaf_is n node.0 Yes node.1 e))
+      (λ forall same. forall_yes_to n forall (node.1 ∙ ap Some same) e) (leaf_is n node.0 Yes node.1 e))
 
   leaf_no : (n : ℕ) → n < length formulas.nodes → given.leaf n ≡ No → IsNoIn formulas branch n
   leaf_no n within e =
       let node = node_at formulas branch.held branch.struck given is n within in
       formulas_hold.Fails.literal node.1 (leaf_no_to branch.held.graph.standing (live_in formulas branch) node.0
-      (leaf_is n node.0 No node.1 e))
+      (λ forall same. forall_not_no n forall (node.1 ∙ ap Some same) e) (leaf_is n node.0 No node.1 e))
 
   -- a node with the value Yes is known to be true
   pub yes_to : {n : ℕ} → n < length formulas.nodes → HasYes given n → IsYesIn formulas branch n
@@ -89,27 +117,19 @@ module _ (formulas : Formulas) (branch : Branch) (given : Given) (table : IsForm
       no_from (each (part_of given n i) (place_among n i parts
       (parts_is formulas branch.held branch.struck given is n (Or parts) has) place)))
 
-  module _ (ground : formulas.foralls ≡ []) where
-    -- no node is a forall
-    no_forall : (n : ℕ) (node : Node) → HasNode formulas.nodes n node → (forall : ℕ) → node ≡ Forall forall → ⊥
-    no_forall n node has forall same =
-        let within = table.foralls_stand n forall (has ∙ ap Some same) in
-        let none = ap length ground in
-        omega (arith, within, none)
-
-    -- one that is known to be true has the value Yes
-    pub yes_from : {n : ℕ} → IsYesIn formulas branch n → HasYes given n
-    yes_from (formulas_hold.Holds.literal {n} {node} has known) = HasYes.leaf
-        (kind_is formulas branch.held branch.struck given is n node has
-        ∙ yes_leaf_kind branch.held.graph.standing (live_in formulas branch) node known)
-        (leaf_yes_from branch.held.graph.standing (live_in formulas branch) node (given.leaf n)
-        (no_forall n node has) (is.leaf n node has) known)
-    yes_from (formulas_hold.Holds.some {n} {part} {parts} has among known) =
-        let at = among_place n part parts (parts_is formulas branch.held branch.struck given is n (Or parts) has)
-        among in
-        HasYes.some {i = at.0} (kind_is formulas branch.held branch.struck given is n (Or parts) has) at.1
-        (subst (HasYes given) (sym at.2) (yes_from known))
-    yes_from (formulas_hold.Holds.every {n} {parts} has each) =
-        HasYes.every (kind_is formulas branch.held branch.struck given is n (And parts) has) (λ i place.
-        yes_from (each (part_of given n i) (place_among n i parts
-        (parts_is formulas branch.held branch.struck given is n (And parts) has) place)))
+  -- one that is known to be true has the value Yes
+  pub yes_from : {n : ℕ} → IsYesIn formulas branch n → HasYes given n
+  yes_from (formulas_hold.Holds.literal {n} {node} has known) = HasYes.leaf
+      (kind_is formulas branch.held branch.struck given is n node has
+      ∙ yes_leaf_kind branch.held.graph.standing (live_in formulas branch) node known)
+      (leaf_yes_from branch.held.graph.standing (live_in formulas branch) node (given.leaf n)
+      (λ forall same live. forall_yes_from n forall (has ∙ ap Some same) live) (is.leaf n node has) known)
+  yes_from (formulas_hold.Holds.some {n} {part} {parts} has among known) =
+      let at = among_place n part parts (parts_is formulas branch.held branch.struck given is n (Or parts) has)
+      among in
+      HasYes.some {i = at.0} (kind_is formulas branch.held branch.struck given is n (Or parts) has) at.1
+      (subst (HasYes given) (sym at.2) (yes_from known))
+  yes_from (formulas_hold.Holds.every {n} {parts} has each) =
+      HasYes.every (kind_is formulas branch.held branch.struck given is n (And parts) has) (λ i place.
+      yes_from (each (part_of given n i) (place_among n i parts
+      (parts_is formulas branch.held branch.struck given is n (And parts) has) place)))

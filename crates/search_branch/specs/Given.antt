@@ -1,5 +1,5 @@
 -- What the values of nodes are given, by what is held.
-use Rattle.std.specs.Prelude.{◌≡◌, ◌↔◌, ℕ, ◌+◌, ◌<◌, true, List, [], ◌∷◌, ◌++◌, length, map, Contains}
+use Rattle.std.specs.Prelude.{◌≡◌, ◌↔◌, ℕ, ◌+◌, ◌<◌, Bool, true, false, List, [], ◌∷◌, ◌++◌, length, map, Contains}
 use Rattle.graph_meaning.specs.declared.done.Done.{Done}
 use Rattle.graph_meaning.specs.Same.{Same}
 use Rattle.graph_meaning.specs.Standing.{differs_of}
@@ -7,7 +7,7 @@ use Rattle.formula_table.specs.declared.node.Node.{Node}
 use Rattle.formula_table.specs.declared.node.Node.TheVariants.{Equal, Atom, And, Or, Forall}
 use Rattle.formula_table.specs.Formulas.{Formulas}
 use Rattle.formula_truth.specs.declared.truth.Truth.{Truth}
-use Rattle.formula_truth.specs.declared.truth.Truth.TheVariants.{Unset}
+use Rattle.formula_truth.specs.declared.truth.Truth.TheVariants.{Yes, Unset}
 use Rattle.formula_value.specs.ByParts.{turn_of}
 use Rattle.formula_value.specs.Holds.{HasNode}
 use Rattle.formula_assert.specs.Held.{Held}
@@ -32,14 +32,24 @@ parts_in (And parts) = parts
 parts_in (Or parts) = parts
 parts_in (Forall forall) = []
 
--- the value of a leaf by what stands; no other node has one by itself, and no forall has one
+-- the value of a literal by what stands; no connective has one by itself, and that of a forall is not by what stands
 abbrev pub IsLeafTruth : List Done → Node → Truth → Type 0
 IsLeafTruth standing (Equal positive s t) truth =
     IsEquationValue (Same standing) (differs_of standing) s t (turn_of positive truth)
 IsLeafTruth standing (Atom positive term) truth = IsAtomValue (Same standing) term (turn_of positive truth)
 IsLeafTruth standing (And parts) truth = truth ≡ Unset
 IsLeafTruth standing (Or parts) truth = truth ≡ Unset
-IsLeafTruth standing (Forall forall) truth = truth ≡ Unset
+IsLeafTruth standing (Forall forall) truth = Unit {0}
+
+-- the value of a forall, by whether it is asserted
+abbrev pub forall_truth : Bool → Truth
+forall_truth true = Yes
+forall_truth false = Unset
+
+-- each forall is Yes where it is asserted, and Unset where it is not
+abbrev pub AreForallValues : List Node → Given → Type 0
+AreForallValues nodes given = (n forall : ℕ) → HasNode nodes n (Forall forall) →
+    given.leaf n ≡ forall_truth (given.asserted n)
 
 -- the terms that a node ends, if it is a literal, with its number; an atom is between its term, true and false
 abbrev pub ends_in : ℕ → Node → List (ℕ × ℕ)
@@ -54,12 +64,14 @@ abbrev pub ends_of : ℕ → List Node → List (ℕ × ℕ)
 ends_of n [] = []
 ends_of n (node ∷ nodes) = ends_in n node ++ ends_of (n + 1) nodes
 
--- the nodes with their parts, the values of leaves by what is held, and what is asserted and struck
+-- the nodes with their parts, the values of literals by what is held, what is asserted and struck, and the values of
+-- foralls by what is asserted
 pub record IsGivenBy (formulas : Formulas) (now : Held) (struck : List (ℕ × ℕ)) (given : Given) : Type 0 where
   pub kinds : given.kinds ≡ map kind_in formulas.nodes
   pub parts : given.parts ≡ map parts_in formulas.nodes
   pub leaf : (n : ℕ) (node : Node) → HasNode formulas.nodes n node →
       IsLeafTruth now.graph.standing node (given.leaf n)
+  pub foralls : AreForallValues formulas.nodes given
   pub asserted : (n : ℕ) → n < length formulas.nodes → (given.asserted n ≡ true) ↔ Contains now.asserted n
   pub struck_are : (n place : ℕ) → n < length formulas.nodes →
       (given.struck n place ≡ true) ↔ Contains struck (n, place)

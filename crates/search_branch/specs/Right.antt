@@ -1,5 +1,5 @@
 -- Values that are right for what is held.
-use Rattle.std.specs.Prelude.{◌≡◌, ◌↔◌, ℕ, false, IsTrue, List, [], length}
+use Rattle.std.specs.Prelude.{◌≡◌, ◌↔◌, ℕ, false, IsTrue, List, length}
 use Rattle.formula_table.specs.Formulas.{Formulas, IsFormulaTable}
 use Rattle.formula_assert.specs.Held.{Held}
 use Rattle.formula_assert.specs.Assertions.{Assertions, held_of}
@@ -18,6 +18,5 @@ pub record AreCurrent (formulas : Formulas) (now : Held) (struck : List (ℕ × 
 -- nothing else
 pub record AreValuesOf (now : Assertions) (struck : List (ℕ × ℕ)) (values : BranchValues) : Type 0 where
   pub table : IsFormulaTable now.formulas
-  pub ground : now.formulas.foralls ≡ []
   pub lost : IsTrue values.lost ↔ HasClash now.graph.standing
   pub current : values.lost ≡ false → AreCurrent now.formulas (held_of now) struck values

@@ -27,6 +27,8 @@ use search_watch::{Mark, Watch};
 use std::alloc::Global;
 
 /// The values of all formulas by what an assertion stack holds, with levels.
+///
+/// A forall is known to be true where it is asserted; elsewhere nothing is known of it.
 #[derive(Drop)]
 pub struct BranchValues {
     /// The value of each formula, and which are units, open and stuck.
@@ -42,7 +44,6 @@ pub struct BranchValues {
 impl BranchValues {
     /// The values of all formulas by what the stack holds; nothing is struck, and no level is open.
     pub fn new(alloc: Global, stack: &AssertionStack) -> Result<BranchValues, Memory>
-        requires { stack.now.formulas.foralls ≡ [] }
         ensures { IfOk result (λ values. AreValuesOf stack.now [] values) }
     {
         let _rules = stack.depth();

@@ -1,7 +1,9 @@
 //! The values of leaves by what stands.
-ghost use Rattle.std.specs.Prelude.{◌≡◌, ◌<◌, length, All};
+ghost use Rattle.std.specs.Prelude.{◌≡◌, ℕ, ◌<◌, length, All};
 ghost use Rattle.graph_meaning.specs.Standing.{terms_of};
+ghost use Rattle.formula_table.specs.declared.node.Node.TheVariants.{Forall};
 ghost use Rattle.formula_table.specs.Node.{terms_in};
+ghost use Rattle.formula_truth.specs.declared.truth.Truth.TheVariants.{Unset};
 ghost use Rattle.formula_value.specs.ByParts.{turn_of};
 ghost use Rattle.search_watch.specs.Service.{ServesNow};
 ghost use Rattle.search_branch.specs.Given.{IsLeafTruth};
@@ -29,7 +31,8 @@ fn turned(positive: bool, truth: Truth) -> Truth
 pub(crate) fn leaf_truth(graph: &MatchingGraph, watch: &Watch, node: &Node) -> Truth
     requires terms { All (λ term. term < length (terms_of graph.now.standing)) (terms_in node.now) }
     requires serves { ServesNow graph.now.standing watch.now }
-    ensures { IsLeafTruth graph.now.standing node.now result }
+    ensures truth { IsLeafTruth graph.now.standing node.now result }
+    ensures forall_waits { (forall : ℕ) → node.now ≡ Forall forall → result ≡ Unset }
 {
     match node {
         Node::Equal {

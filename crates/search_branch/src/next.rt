@@ -1,5 +1,5 @@
 //! The next step by the values of nodes.
-ghost use Rattle.std.specs.Prelude.{◌≡◌, [], length};
+ghost use Rattle.std.specs.Prelude.{length};
 ghost use Rattle.formula_table.specs.Formulas.{Formulas, IsFormulaTable};
 ghost use Rattle.search_values.specs.Kept.{given_of};
 ghost use Rattle.search_watch.specs.Service.{HasClash};
@@ -12,7 +12,7 @@ use search_values::NodeValues;
 
 /// The next step of a search, by the values of nodes, where there is no clash.
 pub(crate) fn next_of(values: &NodeValues) -> Step
-    ensures step { (formulas : Formulas) (branch : Branch) → IsFormulaTable formulas → formulas.foralls ≡ [] → IsGivenBy formulas branch.held branch.struck (given_of values.now) → (HasClash branch.held.graph.standing → ⊥) → IsStep formulas branch result }
+    ensures step { (formulas : Formulas) (branch : Branch) → IsFormulaTable formulas → IsGivenBy formulas branch.held branch.struck (given_of values.now) → (HasClash branch.held.graph.standing → ⊥) → IsStep formulas branch result }
     ensures within { (formulas : Formulas) (branch : Branch) → IsFormulaTable formulas → IsGivenBy formulas branch.held branch.struck (given_of values.now) → IsWithin (length formulas.nodes) result }
 {
     if let Some(_stuck) = values.first_stuck() {

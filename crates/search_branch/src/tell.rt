@@ -1,16 +1,18 @@
 //! What came is told to the values of nodes.
 ghost use Rattle.std.specs.Prelude.{◌≡◌, ℕ, ◌<◌, ◌≤◌, length, map, take, All, Contains, OnOk};
+ghost use Rattle.search_values.specs.Given.{kind_of};
 ghost use Rattle.search_values.specs.Kept.{given_of};
 ghost use Rattle.search_watch.specs.Service.{ServesNow};
-ghost use Rattle.search_branch.specs.Given.{kind_in};
+ghost use Rattle.search_branch.specs.Given.{kind_in, AreForallValues};
 ghost use Rattle.formula_truth.specs.declared.truth.Truth.TheVariants.{Unset};
 ghost use Rattle.search_branch.specs.Built.{AreFresh};
 ghost use Rattle.search_branch.specs.Told.{KeepsNodes, KeepsLeaves, TellsLeaf, AreToldBut, AreTold, AreAsserted};
-ghost use Rattle.search_branch.specs.Told.{TellsAll};
+ghost use Rattle.search_branch.specs.Told.{TellsForall, AssertsNode, TellsAll};
 
 use crate::leaf::leaf_truth;
 use formula_assert::AssertionStack;
-use formula_truth::is_set;
+use formula_table::{FormulaTable, Node};
+use formula_truth::{Truth, is_set};
 use search_values::NodeValues;
 use search_watch::Watch;
 use std::alloc::AllocError;
@@ -51,7 +53,7 @@ pub(crate) fn set_found(
     requires stand { All (λ n. n < length stack.now.formulas.nodes) found.now }
     requires told { AreToldBut (Contains found.now) stack.now.graph.standing stack.now.formulas.nodes (given_of values.old) }
     ensures told { OnOk result (AreTold stack.now.graph.standing stack.now.formulas.nodes (given_of values.new)) }
-    ensures keeps { OnOk result (KeepsNodes (given_of values.old) (given_of values.new)) }
+    ensures keeps { OnOk result (KeepsNodes stack.now.formulas.nodes (given_of values.old) (given_of values.new)) }
     ensures saved { values.new.saved ≡ values.old.saved }
 {
     for i in 0..found.len() {
@@ -60,22 +62,59 @@ pub(crate) fn set_found(
     Ok(())
 }
 
+/// Tells a node that is to be asserted that it is true, if it is a forall.
+fn tell_forall(values: &mut NodeValues, node: &Node, n: u32) -> Result<(), AllocError>
+    requires stands { n < length values.old.shown.kinds }
+    requires kind { kind_of (given_of values.old) n ≡ kind_in node.now }
+    ensures tells { OnOk result (TellsForall node.now n (given_of values.old) (given_of values.new)) }
+    ensures saved { values.new.saved ≡ values.old.saved }
+{
+    match node {
+        Node::Forall { .. } => {
+            if is_set(values.value(n)) {
+                return Ok(());
+            }
+            values.set_leaf(n, Truth::Yes)?;
+            return Ok(());
+        }
+        Node::Equal { .. } | Node::Atom { .. } | Node::And { .. } | Node::Or { .. } => {
+            return Ok(());
+        }
+    }
+}
+
+/// Asserts a node; a forall is true then.
+fn assert_node(values: &mut NodeValues, node: &Node, n: u32) -> Result<(), AllocError>
+    requires stands { n < length values.old.shown.kinds }
+    requires kind { kind_of (given_of values.old) n ≡ kind_in node.now }
+    ensures asserts { OnOk result (AssertsNode node.now n (given_of values.old) (given_of values.new)) }
+    ensures saved { values.new.saved ≡ values.old.saved }
+{
+    tell_forall(values, node, n)?;
+    values.assert(n)?;
+    Ok(())
+}
+
 /// Asserts each node from this place of the list on. A number that no node has is passed over.
 pub(crate) fn assert_new(
     values: &mut NodeValues,
+    formulas: &FormulaTable,
     asserted: &[u32],
     from: usize,
 ) -> Result<(), AllocError>
     requires from { from ≤ length asserted.now }
     requires before { AreAsserted (take from asserted.now) (given_of values.old) }
+    requires kinds { (given_of values.old).kinds ≡ map kind_in formulas.now.nodes }
+    requires foralls { AreForallValues formulas.now.nodes (given_of values.old) }
     ensures asserted { OnOk result (AreAsserted asserted.now (given_of values.new)) }
-    ensures keeps { OnOk result (KeepsLeaves (given_of values.old) (given_of values.new)) }
+    ensures foralls { OnOk result (AreForallValues formulas.now.nodes (given_of values.new)) }
+    ensures keeps { OnOk result (KeepsLeaves formulas.now.nodes (given_of values.old) (given_of values.new)) }
     ensures saved { values.new.saved ≡ values.old.saved }
 {
     for i in from..asserted.len() {
         let n = asserted[i];
         if n < values.len() {
-            values.assert(n)?;
+            assert_node(values, formulas.node(n), n)?;
         }
     }
     Ok(())
@@ -91,6 +130,7 @@ pub(crate) fn tell_all(
 ) -> Result<(), AllocError>
     requires from { from ≤ length stack.now.asserted }
     requires before { AreAsserted (take from stack.now.asserted) (given_of values.old) }
+    requires foralls { AreForallValues stack.now.formulas.nodes (given_of values.old) }
     requires kinds { (given_of values.old).kinds ≡ map kind_in stack.now.formulas.nodes }
     requires serves { ServesNow stack.now.graph.standing watch.now }
     requires stand { All (λ n. n < length stack.now.formulas.nodes) found.now }
@@ -98,8 +138,9 @@ pub(crate) fn tell_all(
     ensures tells { OnOk result (TellsAll stack.now (given_of values.old) (given_of values.new)) }
     ensures saved { values.new.saved ≡ values.old.saved }
 {
-    assert_new(values, stack.asserted(), from)?;
-    set_found(values, watch, stack, found)
+    set_found(values, watch, stack, found)?;
+    assert_new(values, stack.formulas(), stack.asserted(), from)?;
+    Ok(())
 }
 
 /// Gives each leaf the value by what stands, where none has one yet.
@@ -112,7 +153,7 @@ fn set_each(
     requires serves { ServesNow stack.now.graph.standing watch.now }
     requires unset { (n : ℕ) → n < length stack.now.formulas.nodes → (given_of values.old).leaf n ≡ Unset }
     ensures told { OnOk result (AreTold stack.now.graph.standing stack.now.formulas.nodes (given_of values.new)) }
-    ensures keeps { OnOk result (KeepsNodes (given_of values.old) (given_of values.new)) }
+    ensures keeps { OnOk result (KeepsNodes stack.now.formulas.nodes (given_of values.old) (given_of values.new)) }
     ensures saved { values.new.saved ≡ values.old.saved }
 {
     for n in 0..stack.formulas().len() {
@@ -131,6 +172,7 @@ pub(crate) fn tell_start(
     requires serves { ServesNow stack.now.graph.standing watch.now }
     ensures tells { OnOk result (TellsAll stack.now (given_of values.old) (given_of values.new)) }
 {
-    assert_new(values, stack.asserted(), 0)?;
-    set_each(values, watch, stack)
+    set_each(values, watch, stack)?;
+    assert_new(values, stack.formulas(), stack.asserted(), 0)?;
+    Ok(())
 }

@@ -30,8 +30,10 @@ use Rattle.search_check.proofs.HalfLemmas.{not_none, same_last, same_front}
 
 -- nothing is split at first
 pub begins : (start : Assertions) (asides : List Aside) (struck : List (ℕ × ℕ)) (values : BranchValues) →
-    asides ≡ [] → struck ≡ [] → AreValuesOf start [] values → IsUnderWay start start asides struck values
-begins start asides struck values no_aside none_struck right = record {
+    start.formulas.foralls ≡ [] → asides ≡ [] → struck ≡ [] → AreValuesOf start [] values →
+    IsUnderWay start start asides struck values
+begins start asides struck values ground no_aside none_struck right = record {
+  ground = ground;
   halves = [];
   are = (no_aside, over_same start);
   way = subst (λ (places : List (ℕ × ℕ)). IsOnTheWay start.formulas (first_branch (held_of start)) []
@@ -62,6 +64,7 @@ module _ (start now : Assertions) (asides : List Aside) (struck : List (ℕ × �
       pub unit_asserted : ((before : BranchValues) → IsLevelOver before values → IsLevelOver before values_next) →
           IsStep now.formulas (branch_of now struck) (Assert part) → IsUnderWay start next asides struck values_next
       unit_asserted levels is = let step = step_at_start (Assert part) is in record {
+        ground = under_way.ground;
         halves = under_way.halves;
         are = halves_more start now next under_way.halves asides struck [] struck values values_next over
             (sym (append-nil struck)) levels under_way.are;
@@ -89,6 +92,7 @@ module _ (start now : Assertions) (asides : List Aside) (struck : List (ℕ × �
           } in
           let same : half.aside ≡ aside = ap (λ (p : ℕ). record aside { part = p }) (sym part_is) in
           record {
+            ground = under_way.ground;
             halves = half ∷ under_way.halves;
             are = (
               asides,
@@ -125,7 +129,7 @@ module _ (start now : Assertions) (asides : List Aside) (struck : List (ℕ × �
       step.0 step.1 step.2
       (none_live start.formulas
       (subst IsFormulaTable over_start.formulas_are under_way.right.table)
-      (subst (λ (formulas : Formulas). formulas.foralls ≡ []) over_start.formulas_are under_way.right.ground)
+      under_way.ground
       (branch_of now struck))
 
   -- nothing was put aside, and a conflict loses the search
@@ -215,6 +219,7 @@ module _ (start now : Assertions) (asides rest : List Aside) (aside : Aside) (st
       its_second : IsStep now.formulas (branch_of now struck) Lost →
           IsAgainAt start last_half.half.before rest last_half.half.struck values_back last_half.half.aside
       its_second step = record {
+        ground = under_way.ground;
         node = last_half.half.node;
         is_half = record {
           has = last_half.halfway.is_half.has;
@@ -261,6 +266,7 @@ module _ (start now : Assertions) (asides : List Aside) (struck : List (ℕ × �
       IsUnderWay start next asides places values_next
   second_refuted next places values_next over refuted put right levels =
       subst (λ (all : List (ℕ × ℕ)). IsUnderWay start next asides all values_next) (sym put) (record {
+        ground = again.ground;
         halves = again.halves;
         are = halves_more start now next again.halves asides struck ((aside.node, aside.place) ∷ [])
             (struck ++ (aside.node, aside.place) ∷ []) values values_next over refl levels again.are;

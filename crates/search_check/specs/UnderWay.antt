@@ -70,9 +70,10 @@ abbrev pub IsOnTheWay : Formulas → Branch → List Half → Branch → Type 0
 IsOnTheWay formulas first halves branch = (ending last : Ending) → Verdict formulas branch ending →
     Unwinds formulas halves ending last → Verdict formulas first last
 
--- the search of what stood at the start is under way, and the values are those of what stands
+-- the search of what stood at the start, without foralls, is under way, and the values are those of what stands
 pub record IsUnderWay (start now : Assertions) (asides : List Aside) (struck : List (ℕ × ℕ)) (values : BranchValues) :
     Type 0 where
+  pub ground : start.formulas.foralls ≡ []
   pub halves : List Half
   pub are : AreHalves start halves asides now struck values
   pub way : IsOnTheWay start.formulas (first_branch (held_of start)) halves (branch_of now struck)
@@ -86,6 +87,7 @@ IsSearching start now search = IsUnderWay start now search.asides.items search.s
 -- others
 pub record IsAgainAt (start now : Assertions) (asides : List Aside) (struck : List (ℕ × ℕ)) (values : BranchValues)
     (aside : Aside) : Type 0 where
+  pub ground : start.formulas.foralls ≡ []
   pub node : Node
   pub is_half : IsHalf (record { before = now; struck = struck; values = values; aside = aside; node = node })
   pub halves : List Half

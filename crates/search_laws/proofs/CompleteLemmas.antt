@@ -15,8 +15,6 @@ use Rattle.formula_assert.specs.Exactly.{operations_in, IsDone}
 use Rattle.search_laws.specs.Branch.{Branch, with_struck, live_in}
 use Rattle.search_laws.specs.Closing.{Closes}
 use Rattle.search_laws.specs.Closing as closing
-use Rattle.search_laws.specs.Verdict.{Ending, sat, Verdict}
-use Rattle.search_laws.specs.Verdict as verdict
 use Rattle.search_laws.proofs.Places.{contains_none, contains_cases, with_more}
 use Rattle.search_laws.proofs.GraphLemmas.{Does, does, plain_of, plain_refuting}
 
@@ -99,7 +97,7 @@ module _ (formulas : Formulas) where
       (Contains-append_left before.asserted (n ∷ []))
 
   mutual
-    asserts_grow : {n : ℕ} {before after : Held} → Asserts formulas n before after → Grows before after
+    pub asserts_grow : {n : ℕ} {before after : Held} → Asserts formulas n before after → Grows before after
     asserts_grow (asserting.stands {before} c) = grows_none before
     asserts_grow (asserting.holds {n} {node} {before} {after} fresh has each) = grows_both before
         (holding formulas n node before) after (grows_holding before n node) (all_grow each)
@@ -171,7 +169,7 @@ module _ (formulas : Formulas) where
       all_keep asserting.none keeps = keeps
       all_keep (asserting.more one rest) keeps = all_keep rest (asserts_keep one keeps)
 
-    follows_asserts : {n : ℕ} {first before after : Held} → Asserts formulas n before after →
+    pub follows_asserts : {n : ℕ} {first before after : Held} → Asserts formulas n before after →
         Follows formulas rule first before → Follows formulas rule first after
     follows_asserts {first} {before} {after} asserts follows = record {
       grows = grows_both first before after follows.grows (asserts_grow asserts);
@@ -180,14 +178,14 @@ module _ (formulas : Formulas) where
       keeps = asserts_keep asserts follows.keeps;
     }
 
-    follows_closes : {first : Held} {branch last : Branch} → Closes formulas branch last →
+    pub follows_closes : {first : Held} {branch last : Branch} → Closes formulas branch last →
         Follows formulas rule first branch.held → Follows formulas rule first last.held
     follows_closes (closing.Closes.conflict c) follows = follows
     follows_closes (closing.Closes.closed quiet rest) follows = follows
     follows_closes (closing.Closes.step quiet unit asserts others) follows =
         follows_closes others (follows_asserts asserts follows)
 
-    follows_struck : (first : Held) (branch : Branch) (n place part : ℕ) (node : Node) →
+    pub follows_struck : (first : Held) (branch : Branch) (n place part : ℕ) (node : Node) →
         HasNode formulas.nodes part node → Follows formulas rule first branch.held →
         Follows formulas rule first (with_struck branch n place node).held
     follows_struck first branch n place part node has follows =
@@ -203,22 +201,3 @@ module _ (formulas : Formulas) where
           keeps = keeps_by rule branch.held.graph after (refuting_of node) did follows.keeps
               (of_struck part node has);
         }
-
-    -- so the way out is reached
-    pub reaches : {first : Held} {branch : Branch} {ending : Ending} → Verdict formulas branch ending →
-        (last : Branch) → ending ≡ sat last → Follows formulas rule first branch.held →
-        IsReached formulas rule first last
-    reaches (verdict.conflict closes c) last e follows = cc
-    reaches (verdict.first_half quiet split asserts after not) last e follows =
-        reaches after last e (follows_asserts asserts (follows_closes quiet.closes follows))
-    reaches {first} (verdict.second_half {closed} {n} {place} {part} {node} quiet split asserts lost has after) last e
-        follows = reaches after last e
-        (follows_struck first closed n place part node has (follows_closes quiet.closes follows))
-    reaches {first} (verdict.satisfied {closed} decided no_live) last e follows =
-        let same : closed ≡ last = cc in
-        subst (IsReached formulas rule first) same (record {
-          follows = follows_closes decided.quiet.closes follows;
-          no_conflict = decided.quiet.no_conflict;
-          no_open = decided.no_open;
-          no_live = no_live;
-        })

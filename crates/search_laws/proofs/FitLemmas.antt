@@ -1,5 +1,5 @@
--- Worlds of branches: a branch that no world fits is refuted.
-use Rattle.std.proofs.Common.{◌≡◌, ◌≢◌, ℕ, true, false, ◌⊎◌, List, [], ◌∷◌, ◌++◌, slice_get, Some, Contains, refl, sym}
+-- Worlds of branches.
+use Rattle.std.proofs.Common.{◌≡◌, ◌≢◌, ℕ, true, false, ◌⊎◌, List, [], ◌∷◌, ◌++◌, slice_get, Some, Contains, sym}
 use Rattle.std.proofs.Common.{ap, subst, ◌∙◌, ⊎_elim}
 use Rattle.std.proofs.lemmas.Option.{same_Some}
 use Rattle.graph_meaning.specs.declared.op.Op.{Op}
@@ -18,8 +18,6 @@ use Rattle.formula_assert.specs.Exactly.{operations_in}
 use Rattle.search_laws.specs.Branch.{Branch, with_held, with_struck, known_in, live_in}
 use Rattle.search_laws.specs.Closing.{Conflict, IsAssertedOr, IsLeftOver, IsUnit, Closes, IsSplit}
 use Rattle.search_laws.specs.Closing as closing
-use Rattle.search_laws.specs.Verdict.{Ending, unsat, Verdict}
-use Rattle.search_laws.specs.Verdict as verdict
 use Rattle.search_laws.proofs.Places.{place_of, contains_at, contains_head, contains_later, with_one, with_more}
 use Rattle.search_laws.proofs.GraphLemmas.{Does, does, plain_of, plain_refuting, merge_stands, differ_stands}
 use Rattle.search_laws.proofs.FormulaLemmas.{OfLeaves, one_node, same_ors, holds_or, everywhere_or, fails_not}
@@ -73,7 +71,7 @@ module _ (formulas : Formulas) (world : World) where
 
   mutual
     -- to assert what is true keeps the world
-    asserts_fits : {n : ℕ} {before after : Held} → Asserts formulas n before after →
+    pub asserts_fits : {n : ℕ} {before after : Held} → Asserts formulas n before after →
         FitsHeld formulas world before → IsTrueIn formulas.nodes world n → FitsHeld formulas world after
     asserts_fits (asserting.stands c) fits h = fits
     asserts_fits (asserting.holds {n} {node} {before} fresh has each) fits h =
@@ -146,14 +144,14 @@ module _ (formulas : Formulas) (world : World) where
         (at.0, one.0, holding_is_left n at.0 one.0 parts is_or at.1 one.2, one.2)
 
     -- there is no conflict
-    no_conflict : Conflict formulas branch → ⊥
+    pub no_conflict : Conflict formulas branch → ⊥
     no_conflict (closing.Conflict.true_is_false same) = fits.held.is_world.apart (number_of_class 0 1 same)
     no_conflict (closing.Conflict.difference {s} {t} differ same) = ends_differ s t differ (number_of_class s t same)
     no_conflict (closing.Conflict.nothing_left {n} {parts} is_or none) =
         let one = some_left n parts is_or in none one.0 one.1 one.2
 
     -- a part of an asserted disjunction has two values
-    part_held : (n place part : ℕ) (parts : List ℕ) → IsAssertedOr formulas branch n parts →
+    pub part_held : (n place part : ℕ) (parts : List ℕ) → IsAssertedOr formulas branch n parts →
         slice_get parts place ≡ Some part → Everywhere formulas.nodes (IsHeldAt world) part
     part_held n place part parts is_or at = everywhere_or (held_of_leaves world) is_or.has
         (fits.held.asserted n is_or.asserted).held part (contains_at parts place part at)
@@ -171,11 +169,11 @@ module _ (formulas : Formulas) (world : World) where
         }
 
     -- the branch with more that is held
-    held_fits : (next : Held) → FitsHeld formulas world next → Fits formulas world (with_held branch next)
+    pub held_fits : (next : Held) → FitsHeld formulas world next → Fits formulas world (with_held branch next)
     held_fits next h = record { held = h; struck = fits.struck }
 
     -- a part that doesn't hold may be struck
-    struck_fits : (n place part : ℕ) (parts : List ℕ) (node : Node) → IsAssertedOr formulas branch n parts →
+    pub struck_fits : (n place part : ℕ) (parts : List ℕ) (node : Node) → IsAssertedOr formulas branch n parts →
         slice_get parts place ≡ Some part → HasNode formulas.nodes part node →
         (Holds formulas.nodes (IsTrueAt world) part → ⊥) → Fits formulas world (with_struck branch n place node)
     struck_fits n place part parts node is_or at has not =
@@ -192,34 +190,17 @@ module _ (formulas : Formulas) (world : World) where
         }
 
     -- a part of a disjunction holds or doesn't
-    part_or_not : (n place part : ℕ) (parts : List ℕ) → IsAssertedOr formulas branch n parts →
+    pub part_or_not : (n place part : ℕ) (parts : List ℕ) → IsAssertedOr formulas branch n parts →
         slice_get parts place ≡ Some part →
         Holds formulas.nodes (IsTrueAt world) part ⊎ (Holds formulas.nodes (IsTrueAt world) part → ⊥)
     part_or_not n place part parts is_or at = holds_or_not (true_of_leaves world) (held_of_leaves world)
         (leaf_or_not world) (part_held n place part parts is_or at)
 
   -- to close keeps the world
-  closes_fits : {branch last : Branch} → Closes formulas branch last → Fits formulas world branch →
+  pub closes_fits : {branch last : Branch} → Closes formulas branch last → Fits formulas world branch →
       Fits formulas world last
   closes_fits (closing.Closes.conflict c) fits = fits
   closes_fits (closing.Closes.closed none rest) fits = fits
   closes_fits (closing.Closes.step {branch} {next} {n} {part} none first asserts others) fits =
       closes_fits others (held_fits branch fits next
       (asserts_fits asserts fits.held (unit_holds branch fits n part first.is_unit)))
-
-  -- a branch whose search ends without a way out has no world
-  pub no_world : {branch : Branch} {ending : Ending} → Verdict formulas branch ending → ending ≡ unsat →
-      Fits formulas world branch → ⊥
-  no_world (verdict.conflict {branch} {closed} closes conflict) e fits =
-      no_conflict closed (closes_fits closes fits) conflict
-  no_world (verdict.first_half quiet split asserts after not) e fits = not e
-  no_world (verdict.second_half {closed} {next} {n} {place} {part} {node} quiet split asserts lost has after) e fits =
-      let here = closes_fits quiet.closes fits in
-      let is_or = split.is_open.0 in
-      let at = split.left.at_place in
-      ⊎_elim
-      (λ holds. no_world lost refl (held_fits closed here next (asserts_fits asserts here.held
-      (record { held = part_held closed here n place part split.parts is_or at; holds = holds }))))
-      (λ not. no_world after e (struck_fits closed here n place part split.parts node is_or at has not))
-      (part_or_not closed here n place part split.parts is_or at)
-  no_world (verdict.satisfied decided no_live) e fits = cc

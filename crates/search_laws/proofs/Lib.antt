@@ -7,7 +7,14 @@ pub mod GraphLemmas
 pub mod Worlds
 pub mod FitLemmas
 pub mod Totals
+pub mod GrownLemmas
+pub mod StandingLemmas
+pub mod EntryLemmas
+pub mod RoundLemmas
 pub mod RefuteLemmas
 pub mod CompleteLemmas
+pub mod LiveLemmas
+pub mod ReachLemmas
+pub mod OpenLemmas
 pub mod KeptLemmas
 pub mod WayOutLemmas

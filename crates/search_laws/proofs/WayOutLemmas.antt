@@ -12,15 +12,17 @@ use Rattle.formula_table.specs.Formulas.{Formulas, NodesStand}
 use Rattle.formula_value.specs.Holds.{HasNode}
 use Rattle.formula_assert.specs.Held.{Held, triggers_at, operations_of, refuting_of}
 use Rattle.formula_assert.specs.Exactly.{HoldsExactly}
-use Rattle.search_laws.specs.Branch.{Branch, first_branch}
+use Rattle.search_laws.specs.Branch.{Branch}
 use Rattle.search_laws.specs.Closing.{true_is_false}
+use Rattle.search_laws.specs.Path.{Path, first_path}
 use Rattle.search_laws.specs.Verdict.{sat, Verdict}
 use Rattle.search_laws.specs.Assignment.{IsAssignment, Satisfies}
 use Rattle.search_laws.specs.Kept.{AreLeaders, is_truth, KeepsSorts, kept_assignment}
 use Rattle.search_laws.specs.Laws.{IsInOrder, IsWayOut}
 use Rattle.search_laws.proofs.Places.{contains_none, contains_one}
 use Rattle.search_laws.proofs.GraphLemmas.{live_only, merge_stands}
-use Rattle.search_laws.proofs.CompleteLemmas.{Keeps, Follows, IsReached, grows_none, reaches}
+use Rattle.search_laws.proofs.CompleteLemmas.{Keeps, Follows, IsReached, grows_none}
+use Rattle.search_laws.proofs.ReachLemmas.{AreAllowed, reaches}
 use Rattle.search_laws.proofs.KeptLemmas.{AreSorted, assigns, satisfied}
 
 -- the ends of an equation have one sort
@@ -128,18 +130,21 @@ way_of formulas now last leaders predicates order are sorts reached =
           reached.no_open reached.no_live reached.follows.done;
     }
 
-pub way_out : (formulas : Formulas) (now : Held) (last : Branch) (leaders : List ℕ) (predicates : ℕ → Bool) →
-    IsInOrder formulas now → Verdict formulas (first_branch now) (sat last) →
-    AreLeaders last.held.graph.standing leaders →
+pub way_out : (rounds : ℕ) (formulas : Formulas) (now : Held) (last : Path) (leaders : List ℕ)
+    (predicates : ℕ → Bool) → IsInOrder formulas now → Verdict rounds (first_path formulas now) (sat last) →
+    AreLeaders last.branch.held.graph.standing leaders →
     KeepsSorts predicates (terms_of now.graph.standing) formulas.nodes →
-    IsWayOut predicates leaders formulas now last
-way_out formulas now last leaders predicates order ends are sorts =
+    IsWayOut predicates leaders formulas now last.branch
+way_out rounds formulas now last leaders predicates order ends are sorts =
     let rows : List TermRow = terms_of now.graph.standing in
-    let reached : IsReached formulas (KeepsSort predicates rows) now last =
-    reaches formulas (KeepsSort predicates rows) (of_nodes predicates formulas rows order.terms sorts)
-    (of_struck predicates formulas rows order.terms sorts) ends last refl
+    let allowed : AreAllowed (KeepsSort predicates rows) formulas = record {
+      of_nodes = of_nodes predicates formulas rows order.terms sorts;
+      of_struck = of_struck predicates formulas rows order.terms sorts;
+    } in
+    let reached : IsReached formulas (KeepsSort predicates rows) now last.branch =
+    reaches (KeepsSort predicates rows) ends last refl allowed
     (follows predicates formulas rows order.terms sorts now order.exactly) in
-    let way : IsWay predicates leaders formulas.nodes last.held.asserted rows =
-    subst (IsWay predicates leaders formulas.nodes last.held.asserted) reached.follows.grows.terms
-    (way_of formulas now last leaders predicates order are sorts reached) in
+    let way : IsWay predicates leaders formulas.nodes last.branch.held.asserted rows =
+    subst (IsWay predicates leaders formulas.nodes last.branch.held.asserted) reached.follows.grows.terms
+    (way_of formulas now last.branch leaders predicates order are sorts reached) in
     record { assigns = way.assigns; satisfies = way.satisfies; among = reached.follows.grows.asserted }

@@ -43,7 +43,7 @@ pub record IsWayOut (predicates : ℕ → Bool) (leaders : List ℕ) (formulas :
       formulas.nodes n
   pub among : (n : ℕ) → Contains now.asserted n → Contains last.held.asserted n
 
--- no round is spent on a way out
+-- where the search ends with a way out, it is one
 abbrev pub SatSatisfies : Type 0
 SatSatisfies = (rounds : ℕ) (formulas : Formulas) (now : Held) (last : Path) (leaders : List ℕ)
     (predicates : ℕ → Bool) → IsInOrder formulas now → Verdict rounds (first_path formulas now) (sat last) →

@@ -1,5 +1,5 @@
 -- Formulas that finitely many instances of their foralls refute.
-use Rattle.std.specs.Prelude.{◌≡◌, ℕ, IsTrue, List, [], map, slice_get, slice_index, Some, All, Contains}
+use Rattle.std.specs.Prelude.{◌≡◌, ℕ, IsTrue, List, [], slice_get, slice_index, Some, All, Contains}
 use Rattle.graph_terms.specs.declared.term_row.TermRow.{TermRow}
 use Rattle.graph_terms.specs.Terms.{HasRow, IsTable}
 use Rattle.formula_draft.specs.declared.draft_row.DraftRow.{DraftRow}

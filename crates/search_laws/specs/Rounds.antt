@@ -1,6 +1,5 @@
 -- Instances that are entered in a round.
 use Rattle.std.specs.Prelude.{◌≡◌, ◌≢◌, ℕ, List, [], ◌∷◌, ◌++◌}
-use Rattle.graph_terms.specs.declared.term_row.TermRow.{TermRow}
 use Rattle.graph_meaning.specs.Standing.{terms_of}
 use Rattle.graph_meaning.specs.State.{GraphState}
 use Rattle.match_graph.specs.GraphTerms.{with_terms}

@@ -6,13 +6,13 @@ use Rattle.search_branch.proofs.NextLemmas.{lost_is, assert_is, split_is, way_ou
 use Rattle.search_branch.proofs.next.next_of.Goals as goal
 
 pub returns-in-Some-clause-step : goal.returns-in-Some-clause-step
-returns-in-Some-clause-step c formulas branch table ground is no_clash =
+returns-in-Some-clause-step c formulas branch table is no_clash =
     lost_is formulas branch (given_of c.args.values.now) table is c.in-Some._stuck c.in-Some.ensures.some
 
 pub returns-in-Some-first_unit-clause-step : goal.returns-in-Some-first_unit-clause-step
-returns-in-Some-first_unit-clause-step c formulas branch table ground is no_clash =
+returns-in-Some-first_unit-clause-step c formulas branch table is no_clash =
     subst (λ (part : ℕ). IsStep formulas branch (Assert part)) (sym c.part-part.ensures)
-    (assert_is formulas branch (given_of c.args.values.now) table is ground no_clash c.in_default.ensures.none
+    (assert_is formulas branch (given_of c.args.values.now) table is no_clash c.in_default.ensures.none
     c.in-Some-first_unit.unit.node c.in-Some-first_unit.unit.place c.in-Some-first_unit.ensures.some)
 
 pub returns-in-Some-first_unit-clause-within : goal.returns-in-Some-first_unit-clause-within
@@ -22,11 +22,11 @@ returns-in-Some-first_unit-clause-within c formulas branch table is =
     c.in-Some-first_unit.unit.node c.in-Some-first_unit.unit.place c.in-Some-first_unit.ensures.some)
 
 pub returns-in-Some-first_open-clause-step : goal.returns-in-Some-first_open-clause-step
-returns-in-Some-first_open-clause-step c formulas branch table ground is no_clash =
+returns-in-Some-first_open-clause-step c formulas branch table is no_clash =
     let split = c.in-Some-first_open.split in
     subst (λ (part : ℕ). IsStep formulas branch (Split split.node split.place part))
     (sym c.part-part-in-Some-first_open.ensures)
-    (split_is formulas branch (given_of c.args.values.now) table is ground no_clash c.in_default.ensures.none
+    (split_is formulas branch (given_of c.args.values.now) table is no_clash c.in_default.ensures.none
     c.in_default-first_unit.ensures.none split.node split.place c.in-Some-first_open.ensures.some)
 
 pub returns-in-Some-first_open-clause-within : goal.returns-in-Some-first_open-clause-within
@@ -37,6 +37,6 @@ returns-in-Some-first_open-clause-within c formulas branch table is =
     c.in-Some-first_open.ensures.some)
 
 pub returns-in-None-clause-step : goal.returns-in-None-clause-step
-returns-in-None-clause-step c formulas branch table ground is no_clash =
-    way_out_is formulas branch (given_of c.args.values.now) table is ground no_clash c.in_default.ensures.none
+returns-in-None-clause-step c formulas branch table is no_clash =
+    way_out_is formulas branch (given_of c.args.values.now) table is no_clash c.in_default.ensures.none
     c.in_default-first_unit.ensures.none c.in-None.ensures.settled

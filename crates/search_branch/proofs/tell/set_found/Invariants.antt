@@ -9,6 +9,6 @@ invariant-loop-i l = record {
   kinds : (given_of l.values).kinds ≡ map kind_in l.stack.formulas.nodes;
   told : AreToldBut (λ (n : ℕ). Contains (drop l.i l.found) n) l.stack.graph.standing l.stack.formulas.nodes
       (given_of l.values);
-  keeps : KeepsNodes (given_of l.fn.values) (given_of l.values);
+  keeps : KeepsNodes l.stack.formulas.nodes (given_of l.fn.values) (given_of l.values);
   saved : l.values.saved ≡ l.fn.values.saved;
 }

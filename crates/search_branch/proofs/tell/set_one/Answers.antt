@@ -15,5 +15,5 @@ pub set_leaf-requires-clause-leaf : goal.set_leaf-requires-clause-leaf
 set_leaf-requires-clause-leaf c =
     known_is_leaf c.args.stack.now.formulas.nodes (given_of c.args.values.now) c.graph.result.now.standing c.args.n
     c.node.result.now c.formulas.result.now.nodes c.leaf_truth-truth.result c.requires.kinds
-    (ap (λ (formulas : Formulas). formulas.nodes) c.formulas.ensures) c.node.ensures c.leaf_truth-truth.ensures
+    (ap (λ (formulas : Formulas). formulas.nodes) c.formulas.ensures) c.node.ensures c.leaf_truth-truth.ensures.truth
     (λ unset. set_is_other c.leaf_truth-truth.result c.is_set-2.result c.is_set-2.ensures c.if-is_set-2.true unset)

@@ -3,7 +3,7 @@ use Rattle.graph_meaning.specs.State.{GraphState}
 use Rattle.search_values.specs.Kept.{given_of}
 use Rattle.search_branch.specs.Told.{AreToldBut}
 use Rattle.search_branch.proofs.ComeLemmas.{served, level_stays, behind, asserted_before, found_stands, told_but}
-use Rattle.search_branch.proofs.ComeLemmas.{serves_still, right_lost, right_now}
+use Rattle.search_branch.proofs.ComeLemmas.{foralls_before, serves_still, right_lost, right_now}
 use Rattle.search_branch.proofs.branch_values.BranchValues.follow.Goals as goal
 
 pub returns-then-clash-clause-values : goal.returns-then-clash-clause-values
@@ -35,6 +35,12 @@ returns-then-clash-clause-level c before over =
 pub tell_all-requires-clause-before : goal.tell_all-requires-clause-before
 tell_all-requires-clause-before c =
     asserted_before c.requires.come.0 c.args.stack.now c.args.unions.now c.args.asserted c.args.differs
+    c.requires.come.2 c.requires.come.1 c.args.self.now c.requires.calm c.requires.come.3
+    c.graph-graph.result.now.standing (ap (λ (graph : GraphState). graph.standing) c.graph-graph.ensures)
+
+pub tell_all-requires-clause-foralls : goal.tell_all-requires-clause-foralls
+tell_all-requires-clause-foralls c =
+    foralls_before c.requires.come.0 c.args.stack.now c.args.unions.now c.args.asserted c.args.differs
     c.requires.come.2 c.requires.come.1 c.args.self.now c.requires.calm c.requires.come.3
     c.graph-graph.result.now.standing (ap (λ (graph : GraphState). graph.standing) c.graph-graph.ensures)
 

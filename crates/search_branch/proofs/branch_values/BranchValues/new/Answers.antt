@@ -22,5 +22,5 @@ returns c =
       marks = c.new.result;
       lost = c.is_lost-lost.result;
     })
-    c.depth-rules.ensures.rules.formulas.table c.requires lost are_fresh c.in_ok-tell_start.ensures.tells
+    c.depth-rules.ensures.rules.formulas.table lost are_fresh c.in_ok-tell_start.ensures.tells
     c.in_ok-watch.ensures
