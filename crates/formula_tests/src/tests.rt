@@ -1,3 +1,4 @@
 //! Formulas that are made and entered.
 mod entry;
+mod instance;
 mod library;
