@@ -14,11 +14,10 @@ use Rattle.formula_table.specs.Formulas.{Formulas, IsFormulaTable}
 use Rattle.formula_table.specs.Instance.{HasVariables, EntersInstance, StopsInstance}
 use Rattle.match_graph.specs.GraphTerms.{with_terms}
 use Rattle.formula_assert.specs.declared.level.Level.{Level}
-use Rattle.formula_assert.specs.Held.{Held, held}
+use Rattle.formula_assert.specs.Held.{held}
 use Rattle.formula_assert.specs.Assertions.{Assertions, held_of}
 use Rattle.formula_assert.specs.Asserts.{Asserts}
-use Rattle.formula_assert.specs.AssertFormula.{AssertsOver, StopsOver}
-use Rattle.formula_assert.specs.AssertInstance.{AssertsInstance, StopsAssertInstance}
+use Rattle.formula_assert.specs.AssertInstance.{TermsStand, AssertsInstance, StopsAssertInstance}
 use Rattle.formula_assert.specs.InLevel.{HoldsMoreOver, KeepsLevels}
 use Rattle.formula_assert.specs.StackInside.{IsStackOf, assertions_with}
 use Rattle.formula_assert.proofs.Growth.{holds_same}
@@ -37,13 +36,21 @@ body_over table forall tuple is has quantified at =
 
 -- an instance that was entered
 module _ (graph entered : GraphState) (table grown : Formulas) (asserted : List ℕ) (levels : List Level)
-    (stack : IsStackOf graph table asserted levels) (is : IsFormulaTable table) (forall : ℕ) (tuple : List ℕ)
-    (has : HasVariables table forall (length tuple))
-    (below : All (λ term. term < length (terms_of graph.standing)) tuple) (root : ℕ)
+    (stack : IsStackOf graph table asserted levels) (now : Assertions)
+    (view : assertions_with graph table asserted levels ≡ now) (is : IsFormulaTable now.formulas) (forall : ℕ)
+    (tuple : List ℕ) (has : HasVariables now.formulas forall (length tuple)) (stand : TermsStand now tuple) (root : ℕ)
     (enters : EntersInstance (λ more. entered ≡ with_terms graph more) forall tuple (terms_of graph.standing)
     graph.limit table grown root) where
   body_is : IsFormulaOver (length tuple) enters.quantified.body
-  body_is = body_over table forall tuple is has enters.quantified enters.is_forall
+  body_is = body_over table forall tuple (subst (λ (a : Assertions). IsFormulaTable a.formulas) (sym view) is)
+      (subst (λ (a : Assertions). HasVariables a.formulas forall (length tuple)) (sym view) has) enters.quantified
+      enters.is_forall
+
+  below : All (λ term. term < length (terms_of graph.standing)) tuple
+  below = subst (λ (a : Assertions). TermsStand a tuple) (sym view) stand
+
+  abbrev between : Assertions
+  between = assertions_with entered grown asserted levels
 
   -- its root stands
   pub instance_root : root < length grown.nodes
@@ -56,22 +63,20 @@ module _ (graph entered : GraphState) (table grown : Formulas) (asserted : List 
       enters.enters stack.terms_stand entered asserted asserted levels (holds_same (held entered asserted)) stack
 
   -- and its levels are as before
-  pub instance_keeps : KeepsLevels (assertions_with graph table asserted levels)
-      (assertions_with entered grown asserted levels)
+  instance_keeps : KeepsLevels (assertions_with graph table asserted levels) between
   instance_keeps = asserted_keeps enters.quantified.body tuple body_is graph entered below table grown graph.limit root
       enters.enters stack.terms_stand entered asserted asserted levels (holds_same (held entered asserted)) stack
 
   -- and more was held then
-  module _ (after : Assertions) (over : HoldsMoreOver (assertions_with entered grown asserted levels) after) where
-    pub instance_after : KeepsLevels (assertions_with graph table asserted levels) after
-    instance_after = both_levels (assertions_with graph table asserted levels)
-        (assertions_with entered grown asserted levels) after instance_keeps
-        (over_levels (assertions_with entered grown asserted levels) after over)
+  module _ (after : Assertions) (over : HoldsMoreOver between after) where
+    pub instance_after : KeepsLevels now after
+    instance_after = subst (λ (a : Assertions). KeepsLevels a after) view
+        (both_levels (assertions_with graph table asserted levels) between after instance_keeps
+        (over_levels between after over))
 
-    -- as its root was asserted
-    pub instance_asserted : Asserts grown root (held entered asserted) (held_of after) →
+    instance_here : Asserts grown root (held entered asserted) (held_of after) →
         AssertsInstance forall tuple (assertions_with graph table asserted levels) after
-    instance_asserted asserts = record {
+    instance_here asserts = record {
       quantified = enters.quantified;
       is_forall = enters.is_forall;
       asserts_body = record {
@@ -85,6 +90,12 @@ module _ (graph entered : GraphState) (table grown : Formulas) (asserted : List 
         saved_is = over.saved_are ∙ instance_keeps.saved_are;
       };
     }
+
+    -- as its root was asserted
+    pub instance_asserted : Asserts grown root (held entered asserted) (held_of after) →
+        AssertsInstance forall tuple now after
+    instance_asserted asserts = subst (λ (a : Assertions). AssertsInstance forall tuple a after) view
+        (instance_here asserts)
 
 -- no rows were entered
 no_rows : (formula : Formula) (tuple : List ℕ) (rows : List TermRow) (limit : ℕ) →
@@ -123,28 +134,33 @@ instance_undone before after forall tuple n has is = record {
 }
 
 -- an instance that was not entered
-module _ (graph later : GraphState) (table same : Formulas) (asserted : List ℕ) (levels : List Level) (forall : ℕ)
-    (tuple : List ℕ) (fault : EnterFault) (stack : IsStackOf graph table asserted levels) (is : same ≡ table)
-    (stops : StopsInstance (λ more. later ≡ with_terms graph more) (λ added. (middle : GraphState) ×
-    (middle ≡ with_terms graph added) × (later ≡ middle)) forall tuple (terms_of graph.standing) graph.limit table
-    fault) where
+module _ (graph later : GraphState) (table same : Formulas) (asserted : List ℕ) (levels : List Level)
+    (stack : IsStackOf graph table asserted levels) (now : Assertions)
+    (view : assertions_with graph table asserted levels ≡ now) (forall : ℕ) (tuple : List ℕ) (fault : EnterFault)
+    (is : same ≡ table) (stops : StopsInstance (λ more. later ≡ with_terms graph more)
+    (λ added. (middle : GraphState) × (middle ≡ with_terms graph added) × (later ≡ middle)) forall tuple
+    (terms_of graph.standing) graph.limit table fault) where
+  abbrev left : Assertions
+  left = assertions_with later same asserted levels
+
   -- leaves a stack
   pub no_instance_stack : IsStackOf later same asserted levels
   no_instance_stack = refused_stack graph later table same asserted levels stops.quantified.body tuple fault stack is
       stops.stops
 
-  -- is not asserted
-  pub no_instance_asserted : StopsAssertInstance forall tuple (assertions_with graph table asserted levels)
-      (assertions_with later same asserted levels) fault
-  no_instance_asserted = record {
+  not_here : StopsAssertInstance forall tuple (assertions_with graph table asserted levels) left fault
+  not_here = record {
     quantified = stops.quantified;
     is_forall = stops.is_forall;
     stops_body = refused_assert graph later table same asserted levels stops.quantified.body tuple fault stack is
         stops.stops;
   }
 
+  -- is not asserted
+  pub no_instance_asserted : StopsAssertInstance forall tuple now left fault
+  no_instance_asserted = subst (λ (a : Assertions). StopsAssertInstance forall tuple a left fault) view not_here
+
   -- and leaves the levels as before
-  pub no_instance_keeps : KeepsLevels (assertions_with graph table asserted levels)
-      (assertions_with later same asserted levels)
-  no_instance_keeps = refused_keeps graph later table same asserted levels stops.quantified.body tuple fault stack is
-      stops.stops
+  pub no_instance_keeps : KeepsLevels now left
+  no_instance_keeps = subst (λ (a : Assertions). KeepsLevels a left) view
+      (refused_keeps graph later table same asserted levels stops.quantified.body tuple fault stack is stops.stops)

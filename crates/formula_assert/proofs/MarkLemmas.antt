@@ -48,8 +48,7 @@ fall_within : (before : Assertions) (levels : List Level) (n f a : ℕ) (table :
 fall_within before [] n f a table asserted nodes foralls few fall within = tt
 fall_within before (level ∷ levels) n f a table asserted nodes foralls few fall within =
     let first : IsWithin before (saved_of table asserted level) =
-    All-head (IsWithin before) (saved_of table asserted level) (map (saved_of table asserted) levels) within in
-    (
+    All-head (IsWithin before) (saved_of table asserted level) (map (saved_of table asserted) levels) within in (
       omega (arith, length-take level.nodes table.nodes, nodes, fall.0, first.nodes),
       omega (arith, length-take level.foralls table.foralls, foralls, fall.1, first.foralls),
       omega (arith, length-take level.asserted asserted, few, fall.2, first.asserted),

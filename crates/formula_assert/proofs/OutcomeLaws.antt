@@ -1,6 +1,6 @@
 -- What stands stays made of tables, and over tables a formula is asserted in one way, and refused in one way but for
 -- want of memory.
-use Rattle.std.proofs.Common.{◌≡◌, ◌≢◌, ℕ, ◌<◌, ◌++◌, List, [], ◌∷◌, length, slice_get, Some, refl, sym, ap, ap₂, subst, ◌∙◌, append-nil, arith}
+use Rattle.std.proofs.Common.{◌≡◌, ◌≢◌, ℕ, ◌++◌, List, [], ◌∷◌, length, slice_get, Some, refl, sym, ap, ap₂, subst, ◌∙◌, append-nil, arith}
 use Rattle.std.specs.List.{before_last}
 use Rattle.std.proofs.lemmas.Option.{none-some, same_Some}
 use Rattle.graph_meaning.specs.declared.done.Done.{Done}

@@ -150,7 +150,7 @@ impl AssertionStack {
             Ok(()) => Ok(()),
             Err(_memory) => {
                 self.back_to(mark);
-                Err(EnterFault::Memory)
+                return Err(EnterFault::Memory);
             }
         }
     }
