@@ -1,14 +1,14 @@
 -- Keys of matches and of done instances, gathered one after another.
-use Rattle.std.proofs.Common.{◌≡◌, ◌↔◌, ◌<◌, ◌⊎◌, inl, inr, ⊎_elim, ℕ, map, List, [], ◌∷◌, ◌++◌, All, Contains, length, take, refl, sym, ap, subst, ◌∙◌}
+use Rattle.std.proofs.Common.{◌≡◌, ◌<◌, inl, inr, ⊎_elim, ℕ, map, List, [], ◌∷◌, ◌++◌, All, Contains, length, sym, ap, subst, ◌∙◌}
 use Rattle.std.proofs.lemmas.List.Elements.{All-push, Contains-append_left, Contains-append_right, Contains-append_cases, Contains-push, Contains-push_cases}
 use Rattle.graph_meaning.specs.declared.done.Done.{Done}
 use Rattle.graph_meaning.specs.Lawful.{IsLawful}
 use Rattle.graph_meaning.specs.Match.{AreMatches, IsMatch}
-use Rattle.graph_meaning.specs.Same.{IsLeader, turned, none}
+use Rattle.graph_meaning.specs.Same.{IsLeader, turned}
 use Rattle.graph_meaning.specs.Standing.{terms_of}
 use Rattle.graph_trigger.specs.declared.trigger.Trigger.{Trigger}
 use Rattle.match_store.specs.declared.instance.Instance.{Instance}
-use Rattle.match_store.specs.Candidates.{AreDoneKeys, HaveMatches, IsDoneKey, IsLeaderKey, IsMatchKey}
+use Rattle.match_store.specs.Candidates.{AreDoneKeys, HaveMatches, IsLeaderKey}
 use Rattle.match_store.specs.DoneInstances.{AreSameEach}
 use Rattle.match_store.specs.KeySet.{GainsKeys}
 use Rattle.match_store.proofs.ListLemmas.{nothing_in, Contains-map, Contains-from_map}

@@ -1,5 +1,5 @@
 -- Sets of keys, by their numbers.
-use Rattle.std.proofs.Common.{◌≡◌, ℕ, Bool, true, false, ◌⊎◌, inl, inr, ⊎_elim, if◌then◌else◌, nat_eq, map, List, [], ◌∷◌, ◌++◌, Contains, Vec, refl, sym, ap, subst, ◌∙◌}
+use Rattle.std.proofs.Common.{◌≡◌, ℕ, Bool, true, false, inl, ⊎_elim, if◌then◌else◌, nat_eq, List, [], ◌∷◌, ◌++◌, Contains, Vec, refl, sym, ap, subst, ◌∙◌}
 use Rattle.std.specs.declared.alloc.Global.{Global}
 use Rattle.std.specs.List.{list_any}
 use Rattle.std.specs.Cmp.Lexicographic.{pointwise, bytes_decides}

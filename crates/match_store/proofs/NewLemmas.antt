@@ -1,5 +1,5 @@
 -- Which instances are new, by their keys.
-use Rattle.std.proofs.Common.{◌≡◌, ◌↔◌, ℕ, map, List, [], ◌∷◌, All, Contains, length, ◌<◌, get_or, sym, ap, ap₂, subst, ◌∙◌, arith}
+use Rattle.std.proofs.Common.{◌≡◌, ℕ, map, List, [], ◌∷◌, All, Contains, length, ◌<◌, get_or, sym, ap, ap₂, subst, arith}
 use Rattle.std.proofs.lemmas.List.Elements.{Contains-get_or}
 use Rattle.std.specs.Cmp.Lexicographic.{slice_cmp}
 use Rattle.std.specs.Ordering.{nat_cmp}
@@ -8,10 +8,10 @@ use Rattle.graph_meaning.specs.declared.done.Done.{Done}
 use Rattle.graph_meaning.specs.Match.{IsMatch}
 use Rattle.graph_meaning.specs.Same.{IsLeader}
 use Rattle.match_store.specs.declared.instance.Instance.{Instance}
-use Rattle.match_store.specs.Candidates.{AreCandidates, AreDoneKeys, AreLeft, IsDoneKey, IsMatchKey}
+use Rattle.match_store.specs.Candidates.{AreCandidates, AreDoneKeys, AreLeft}
 use Rattle.match_store.specs.DoneInstances.{AreSameEach, IsDone}
 use Rattle.match_store.specs.Instance.{instance_of, key_of}
-use Rattle.match_store.specs.New.{AreNew, IsNew}
+use Rattle.match_store.specs.New.{AreNew}
 use Rattle.match_store.proofs.ListLemmas.{AllPairs-from_map, Contains-map, Contains-from_map, less_strict, same_in_order}
 
 -- the first number of a key, and the others
@@ -53,12 +53,16 @@ module _ (standing : List Done) (done : List Instance) where
 
     -- and a match that is done has a done key
     done_key : (instance : Instance) → All (λ term. IsLeader standing term term) instance.tuple → IsDone standing done instance → Contains done_keys (key_of instance)
-    done_key instance led is = (have (key_of instance)).1 (is.earlier, is.stands, record {
-      leaders = instance.tuple;
-      is_key = ap (λ n. n ∷ instance.tuple) (sym is.of_forall);
-      same = is.same;
-      led = led;
-    })
+    done_key instance led is = (have (key_of instance)).1 (
+      is.earlier,
+      is.stands,
+      record {
+        leaders = instance.tuple;
+        is_key = ap (λ n. n ∷ instance.tuple) (sym is.of_forall);
+        same = is.same;
+        led = led;
+      },
+    )
 
     -- the candidates that are left are the new instances
     pub left_are_new : (instances : List Instance) → AreLeft done_keys candidates (map key_of instances) → AreNew standing done instances

@@ -1,5 +1,3 @@
-use Rattle.std.proofs.Common.{◌↔◌, ◌∙◌, ℕ, List, Contains, subst}
-use Rattle.match_graph.specs.AllMatches.{AreAllMatches}
 use Rattle.match_store.proofs.candidates.candidates.Goals as goal
 
 pub returns : goal.returns

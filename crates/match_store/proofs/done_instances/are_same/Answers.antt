@@ -1,4 +1,4 @@
-use Rattle.std.proofs.Common.{◌≡◌, ◌+◌, ◌<◌, ℕ, List, take, get_or, length, refl, sym, subst, arith, true≢false, ◌++◌, ◌∷◌, []}
+use Rattle.std.proofs.Common.{◌+◌, ◌<◌, ℕ, List, take, get_or, length, refl, sym, subst, arith, true≢false, ◌++◌, ◌∷◌, []}
 use Rattle.std.proofs.lemmas.Grind.{take_at_read}
 use Rattle.graph_meaning.specs.Same.{none}
 use Rattle.match_store.specs.DoneInstances.{AreSameEach}

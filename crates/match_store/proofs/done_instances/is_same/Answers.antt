@@ -1,4 +1,4 @@
-use Rattle.std.proofs.Common.{◌≡◌, sym, arith, true≢false}
+use Rattle.std.proofs.Common.{sym, arith, true≢false}
 use Rattle.match_store.proofs.SameLemmas.{ends_stand}
 use Rattle.match_store.proofs.done_instances.is_same.Goals.{then-left-terms-via-then-left-terms, then-left-terms-via-else-left-terms+then-right-terms}
 use Rattle.match_store.proofs.done_instances.is_same.Goals as goal

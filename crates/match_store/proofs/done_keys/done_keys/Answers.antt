@@ -1,4 +1,4 @@
-use Rattle.std.proofs.Common.{◌+◌, ℕ, List, take, sym, subst, arith}
+use Rattle.std.proofs.Common.{List, take, sym, subst, arith}
 use Rattle.std.proofs.lemmas.List.{take_all}
 use Rattle.match_store.specs.declared.instance.Instance.{Instance}
 use Rattle.match_store.specs.Candidates.{AreDoneKeys}

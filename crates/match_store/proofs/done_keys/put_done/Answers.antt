@@ -1,5 +1,4 @@
-use Rattle.std.proofs.Common.{◌<◌, ℕ, List, All, length, sym, subst, ◌∙◌, true≢false}
-use Rattle.graph_meaning.specs.Standing.{terms_of}
+use Rattle.std.proofs.Common.{◌<◌, ℕ, List, All, sym, subst, true≢false}
 use Rattle.match_store.proofs.CandidateLemmas.{gains_its_key, gains_no_key}
 use Rattle.match_store.proofs.done_keys.put_done.Goals as goal
 

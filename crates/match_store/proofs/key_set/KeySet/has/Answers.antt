@@ -1,6 +1,5 @@
 use Rattle.std.proofs.Common.{◌≡◌, ℕ, List, Contains, sym, subst, ◌∙◌}
 use Rattle.std.specs.List.{list_any}
-use Rattle.match_store.specs.KeySet.{lists_of}
 use Rattle.match_store.proofs.KeySetLemmas.{found_in, has_numbers, in_found}
 use Rattle.match_store.proofs.key_set.KeySet.has.Goals as goal
 
