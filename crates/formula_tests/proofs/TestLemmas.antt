@@ -10,10 +10,10 @@ use Rattle.formula_draft.proofs.DraftLaws.{row_stands_at, node_stands_at}
 use Rattle.formula_draft.proofs.KeptLaws.{IsDraft-with_row, IsDraft-with_node}
 
 -- no rows or arguments are named
-none_named : (P : ℕ → Type 0) → All P []
+pub none_named : (P : ℕ → Type 0) → All P []
 none_named P = λ k d within. absurd (omega (arith, within))
 
-one_named : (P : ℕ → Type 0) (n : ℕ) → P n → All P (n ∷ [])
+pub one_named : (P : ℕ → Type 0) (n : ℕ) → P n → All P (n ∷ [])
 one_named P n p zero d within = p
 one_named P n p (suc k) d within = absurd (omega (arith, within))
 

@@ -35,7 +35,7 @@ refute-requires c = (
   again_there c.requires.under_way.0 c.args.stack.now c.args.self.now.asides.items c.pop.new.self.items
       c.in-Some.aside c.args.self.now.struck.items c.args.self.now.values c.in-Some.ensures.items
       c.requires.under_way.1 c.back_to.new.self c.close.new.self (λ before mark over. c.back_to.ensures before mark
-    (c.over_law.ensures.over before c.args.stack.now over)) c.close.ensures.values
+      (c.over_law.ensures.over before c.args.stack.now over)) c.close.ensures.values
       c.close.ensures.levels c.requires.step,
 )
 
