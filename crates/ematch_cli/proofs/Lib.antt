@@ -7,3 +7,4 @@ pub mod Reached
 pub mod Exits
 pub mod Steps
 pub mod RefutedLaws
+pub mod Searched

@@ -8,23 +8,25 @@ use Rattle.formula_draft.specs.Draft.{Formula, IsFormula}
 use Rattle.formula_table.specs.declared.enter_fault.EnterFault.{EnterFault}
 use Rattle.formula_assert.specs.Assertions.{Assertions, held_of, no_assertions, pushed, popped}
 use Rattle.formula_assert.specs.AssertFormula.{StopsAssert}
+use Rattle.formula_assert.specs.Exactly.{AreExact}
 use Rattle.formula_assert.specs.NoForalls.{HasNoForalls}
 use Rattle.formula_assert.specs.Tables.{AreTables}
 use Rattle.formula_assert.proofs.OutcomeLaws.{tables_at_start, tables_pushed, tables_popped, tables_asserted, asserts_formula_once, asserted_not_stopped, stopped_once}
 use Rattle.smt_names.specs.Names.{State}
 use Rattle.smt_commands.specs.SessionLaws.{IsSound}
-use Rattle.search_laws.specs.Branch.{first_branch}
-use Rattle.search_laws.specs.Laws.{HasOneVerdict}
+use Rattle.search_laws.specs.Laws.{IsInOrder, HasOneVerdict}
+use Rattle.search_laws.specs.Verdict.{Ending}
+use Rattle.search_laws.specs.Verdict as verdicts
 use Rattle.smt_commands.specs.Commands.{elaborate}
 use Rattle.smt_commands.specs.Commands as commands
 use Rattle.smt_commands.specs.declared.command.Command as syntax
 use Rattle.smt_commands.specs.declared.command.Command.TheVariants as command
 use Rattle.ematch_cli.specs.ErrorLine.{refusal_line, room_line}
 use Rattle.em_printing.specs.Names.{names_of}
-use Rattle.ematch_cli.specs.Response.{verdict_line, IsCheckResponse, IsResponse}
+use Rattle.ematch_cli.specs.Response.{HasLine, IsSearched, IsCheckResponse, IsResponse}
 use Rattle.ematch_cli.specs.RunState.{RunState, run_state}
 use Rattle.ematch_cli.specs.Run.{repeated, Does, answered, Replies, FindsNoRoom, IsNotTaken, IsRefused}
-use Rattle.ematch_cli.specs.RunLaws.{StaysGround, RunLaws}
+use Rattle.ematch_cli.specs.RunLaws.{StaysGround, StaysExact, RunLaws}
 use Rattle.ematch_cli.specs.Takes.{Takes, Suits}
 use Rattle.ematch_cli.specs.Output.{Answer, Finished, IsAnswer, BeginsWith, IsAnswerFront, behind, failure, last, opening}
 use Rattle.em_words.specs.declared.task.Task.{Task}
@@ -35,6 +37,7 @@ use Rattle.ematch_cli.proofs.OneText.{listing_once}
 pub record IsRight (task : Task) (now : RunState) : Type 0 where
   pub session : IsSound now.session
   pub tables : AreTables now.assertions
+  pub exact : AreExact now.assertions
   pub suits : Suits task now.assertions
 
 -- a result is one
@@ -61,28 +64,50 @@ pub right_opening : RunLaws → (task : Task) (limits : Limits) → IsRight task
 right_opening law task limits = record {
   session = law.starts limits;
   tables = tables_at_start limits.terms limits.nodes;
+  exact = law.exact.starts limits.terms limits.nodes;
   suits = suits_opening law.ground task limits;
 }
 
+-- a search ends with one line
+line_once : (ending : Ending) (a b : List ℕ) → HasLine ending a → HasLine ending b → a ≡ b
+line_once verdicts.Ending.unsat a b one other = one ∙ sym other
+line_once (verdicts.Ending.sat path) a b one other = one ∙ sym other
+line_once (verdicts.Ending.settled path) a b one other = one ∙ sym other
+line_once (verdicts.Ending.rounds_spent path) a b one other = one ∙ sym other
+line_once (verdicts.Ending.refused fault) a b one other = absurd one
+
+-- what is right is in order
+pub in_order : (task : Task) (now : RunState) → IsRight task now → IsInOrder now.assertions.formulas (held_of now.assertions)
+in_order task now right = record {
+  terms = right.tables.terms;
+  table = right.tables.formulas.table;
+  stand = right.tables.formulas.terms;
+  exactly = right.exact.present;
+}
+
+-- a search is answered by one text
+search_once : HasOneVerdict → (rounds : ℕ) (now : Assertions) (a b : List ℕ) → IsInOrder now.formulas (held_of now) → IsSearched rounds now a → IsSearched rounds now b → a ≡ b
+search_once law rounds now a b order one other =
+    let same : one.ending ≡ other.ending = law rounds now.formulas (held_of now) one.ending other.ending order one.verdict other.verdict in
+    line_once other.ending a b (subst (λ (ending : Ending). HasLine ending a) same one.has_line) other.has_line
+
 -- a check is answered by one text
-check_once : HasOneVerdict → (task : Task) (after : RunState) (a b : List ℕ) → IsCheckResponse task after a → IsCheckResponse task after b → a ≡ b
-check_once law Matches after a b one other = listing_once (names_of after.session) after.assertions.graph.standing a b one other
-check_once law Solve after a b one other =
-    let same : one.ending ≡ other.ending = law after.assertions.formulas (first_branch (held_of after.assertions)) one.ending other.ending one.verdict other.verdict in
-    one.is ∙ ap verdict_line same ∙ sym other.is
+check_once : HasOneVerdict → (task : Task) (after : RunState) (a b : List ℕ) → IsRight task after → IsCheckResponse task after a → IsCheckResponse task after b → a ≡ b
+check_once law Matches after a b right one other = listing_once (names_of after.session) after.assertions.graph.standing a b one other
+check_once law Solve after a b right one other = search_once law 0 after.assertions a b (in_order Solve after right) (one 0) (other 0)
 
 -- a command is answered by one text
-response_once : HasOneVerdict → (task : Task) (what : syntax.Command) (before after : RunState) (a b : List ℕ) → IsResponse task what before after a → IsResponse task what before after b → a ≡ b
-response_once law task command.Unsupported before after a b one other = one ∙ sym other
-response_once law task command.CheckSat before after a b one other = check_once law task after a b one other
-response_once law task (command.GetInfo info) before after a b one other = one ∙ sym other
-response_once law task command.Reset before after a b one other = one ∙ sym other
-response_once law task command.Silent before after a b one other = one ∙ sym other
-response_once law task (command.Assert formula) before after a b one other = one ∙ sym other
-response_once law task (command.Push count) before after a b one other = one ∙ sym other
-response_once law task (command.Pop count) before after a b one other = one ∙ sym other
-response_once law task command.ResetAssertions before after a b one other = one ∙ sym other
-response_once law task command.Exit before after a b one other = one ∙ sym other
+response_once : HasOneVerdict → (task : Task) (what : syntax.Command) (before after : RunState) (a b : List ℕ) → IsRight task after → IsResponse task what before after a → IsResponse task what before after b → a ≡ b
+response_once law task command.Unsupported before after a b right one other = one ∙ sym other
+response_once law task command.CheckSat before after a b right one other = check_once law task after a b right one other
+response_once law task (command.GetInfo info) before after a b right one other = one ∙ sym other
+response_once law task command.Reset before after a b right one other = one ∙ sym other
+response_once law task command.Silent before after a b right one other = one ∙ sym other
+response_once law task (command.Assert formula) before after a b right one other = one ∙ sym other
+response_once law task (command.Push count) before after a b right one other = one ∙ sym other
+response_once law task (command.Pop count) before after a b right one other = one ∙ sym other
+response_once law task command.ResetAssertions before after a b right one other = one ∙ sym other
+response_once law task command.Exit before after a b right one other = one ∙ sym other
 
 -- what begins with nothing, and what begins with a front and has more behind it
 nothing_begins : (front bytes : List ℕ) → front ≡ [] → BeginsWith front bytes
@@ -121,6 +146,19 @@ module _ (task : Task) (limits : Limits) where
   does_tables (command.GetInfo info) before after tables is does = subst AreTables (sym does) tables
   does_tables command.Exit before after tables is does = subst AreTables (sym does) tables
 
+  -- and what is held exactly
+  does_exact : StaysExact → (what : syntax.Command) (before after : Assertions) → AreTables before → AreExact before → Does task limits what before after → AreExact after
+  does_exact law (command.Assert formula) before after tables is does = law.asserted formula before after tables is does.1
+  does_exact law (command.Push count) before after tables is does = subst AreExact (sym does) (repeated_keeps AreExact pushed law.opened count before is)
+  does_exact law (command.Pop count) before after tables is does = subst AreExact (sym does) (repeated_keeps AreExact popped law.ended count before is)
+  does_exact law command.Reset before after tables is does = subst AreExact (sym does) (law.starts limits.terms limits.nodes)
+  does_exact law command.ResetAssertions before after tables is does = subst AreExact (sym does) (law.starts limits.terms limits.nodes)
+  does_exact law command.Silent before after tables is does = subst AreExact (sym does) is
+  does_exact law command.Unsupported before after tables is does = subst AreExact (sym does) is
+  does_exact law command.CheckSat before after tables is does = subst AreExact (sym does) is
+  does_exact law (command.GetInfo info) before after tables is does = subst AreExact (sym does) is
+  does_exact law command.Exit before after tables is does = subst AreExact (sym does) is
+
 -- and what suits the task
 pub suits_after : StaysGround → (task : Task) (limits : Limits) (what : syntax.Command) (before after : Assertions) → Suits task before → Does task limits what before after → Suits task after
 suits_after law Matches limits what before after suits does = tt
@@ -140,6 +178,15 @@ module _ (task : Task) (limits : Limits) (law : RunLaws) where
   formula_of : (now : RunState) (words : List Word) (what : syntax.Command) (session : State) → IsRight task now → elaborate now.session words ≡ Ok (answered what session) → (formula : Formula) → what ≡ command.Assert formula → IsFormula formula
   formula_of now words what session right elaborated formula is = ((law.keeps now.session words (answered what session) right.session elaborated).1 formula is).0
 
+  -- what a command leaves is right
+  pub right_after : (now : RunState) (words : List Word) (c : syntax.Command) (s : RunState) (a : List ℕ) → IsRight task now → Replies task limits now words c s a → IsRight task s
+  right_after now words c s a right replies = record {
+    session = (law.keeps now.session words (answered c s.session) right.session replies.elaborated).0;
+    tables = does_tables task limits c now.assertions s.assertions right.tables (formula_of now words c s.session right replies.elaborated) replies.does;
+    exact = does_exact task limits law.exact c now.assertions s.assertions right.tables right.exact replies.does;
+    suits = suits_after law.ground task limits c now.assertions s.assertions right.suits replies.does;
+  }
+
   -- a command is answered in one way
   pub replies_once : (now : RunState) (words : List Word) (c d : syntax.Command) (s t : RunState) (a b : List ℕ) → IsRight task now → Replies task limits now words c s a → Replies task limits now words d t b → (c ≡ d) × (s ≡ t) × (a ≡ b)
   replies_once now words c d s t a b right one other =
@@ -150,7 +197,7 @@ module _ (task : Task) (limits : Limits) (law : RunLaws) where
       let assertions : s.assertions ≡ t.assertions = does_once task limits c now.assertions s.assertions t.assertions right.tables (formula_of now words c s.session right one.elaborated) one.does also in
       let state : s ≡ t = ap₂ run_state session assertions in
       let responds : IsResponse task c now s b = subst (λ (u : RunState). IsResponse task c now u b) (sym state) (subst (λ (x : syntax.Command). IsResponse task x now t b) (sym what) other.responds) in
-      (what, state, response_once law.verdict task c now s a b one.responds responds)
+      (what, state, response_once law.verdict task c now s a b (right_after now words c s a right one) one.responds responds)
 
   -- and then not refused
   pub refused_replies : {P : Type 0} (now : RunState) (words : List Word) (line : List ℕ) (c : syntax.Command) (s : RunState) (a : List ℕ) → IsRight task now → IsRefused task now words line → Replies task limits now words c s a → P
@@ -191,14 +238,6 @@ module _ (task : Task) (limits : Limits) (law : RunLaws) where
       let formulas : room.formula ≡ room'.formula = one_formula now words room.formula room'.formula room.session room'.session room.elaborated room'.elaborated in
       is ∙ ap (room_line words) (stopped_once room.formula now.assertions room.after room'.after fault fault' (formula_of now words (command.Assert room.formula) room.session right room.elaborated room.formula refl) right.tables room.is_room room'.is_room room.stops
       (subst (λ (f : Formula). StopsAssert f now.assertions room'.after fault') (sym formulas) room'.stops)).0 ∙ sym is'
-
-  -- what a command leaves is right
-  pub right_after : (now : RunState) (words : List Word) (c : syntax.Command) (s : RunState) (a : List ℕ) → IsRight task now → Replies task limits now words c s a → IsRight task s
-  right_after now words c s a right replies = record {
-    session = (law.keeps now.session words (answered c s.session) right.session replies.elaborated).0;
-    tables = does_tables task limits c now.assertions s.assertions right.tables (formula_of now words c s.session right replies.elaborated) replies.does;
-    suits = suits_after law.ground task limits c now.assertions s.assertions right.suits replies.does;
-  }
 
   -- a script has one answer
   pub answer_once : (known : Bool) (script : Script) (now : RunState) (a b : Answer) → IsRight task now → IsAnswer task limits known script now a → IsAnswer task limits known script now b → a ≡ b

@@ -5,7 +5,7 @@ use Rattle.smt_text.specs.Word.{Word}
 use Rattle.smt_commands.specs.declared.command.Command.{Command}
 use Rattle.graph_meaning.specs.Standing.{terms_of}
 use Rattle.formula_assert.specs.Assertions.{Assertions}
-use Rattle.search_laws.specs.Assignment.{AreRefuted}
+use Rattle.search_laws.specs.Pairs.{AreRefutedByInstances}
 use Rattle.em_words.specs.declared.task.Task.{Task}
 use Rattle.em_words.specs.declared.task.Task.TheVariants.{Solve}
 use Rattle.ematch_cli.specs.Listing.{line}
@@ -20,11 +20,11 @@ pub data ComesAbout (task : Task) (limits : Limits) : RunState → Type 0 where
   by_command : {now later : RunState} {words : List Word} {command : Command} {text : List ℕ} →
       ComesAbout task limits now → Replies task limits now words command later text → ComesAbout task limits later
 
--- no finite assignment satisfies all that is asserted
+-- finitely many instances of foralls refute all that is asserted
 abbrev pub IsRefutable : Assertions → Type 0
-IsRefutable now = AreRefuted (terms_of now.graph.standing) now.formulas.nodes now.asserted
+IsRefutable now = AreRefutedByInstances now.formulas (terms_of now.graph.standing) now.asserted
 
--- `unsat` is answered only where no finite assignment satisfies all that is asserted
+-- `unsat` is answered only where finitely many instances of foralls refute all that is asserted
 abbrev pub UnsatIsRight : Type 0
 UnsatIsRight = (limits : Limits) (now : RunState) → ComesAbout Solve limits now →
     IsCheckResponse Solve now (line (codes "unsat")) → IsRefutable now.assertions

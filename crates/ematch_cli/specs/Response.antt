@@ -8,8 +8,8 @@ use Rattle.smt_commands.specs.declared.info.Info.TheVariants as info
 use Rattle.ematch_cli.specs.Listing.{line, IsListing}
 use Rattle.em_printing.specs.Names.{names_of}
 use Rattle.formula_assert.specs.Assertions.{Assertions, held_of}
-use Rattle.search_laws.specs.Branch.{first_branch}
-use Rattle.search_laws.specs.Verdict.{Ending, unsat, sat, Verdict}
+use Rattle.search_laws.specs.Path.{first_path}
+use Rattle.search_laws.specs.Verdict.{Ending, unsat, sat, settled, rounds_spent, refused, Verdict}
 use Rattle.ematch_cli.specs.RunState.{RunState}
 use Rattle.em_words.specs.declared.task.Task.{Task}
 use Rattle.em_words.specs.declared.task.Task.TheVariants.{Matches, Solve}
@@ -32,21 +32,24 @@ info_text info.Levels levels = line (codes "(:assertion-stack-levels " ++ decima
 info_text info.ReasonUnknown levels = unsupported
 info_text info.Other levels = unsupported
 
--- the line of how a search ends
-abbrev pub verdict_line : Ending → List ℕ
-verdict_line unsat = line (codes "unsat")
-verdict_line (sat last) = line (codes "sat")
+-- the text is the line of how a search ends; where an instance is past a limit there is none
+abbrev pub HasLine : Ending → List ℕ → Type 0
+HasLine unsat text = text ≡ line (codes "unsat")
+HasLine (sat last) text = text ≡ line (codes "sat")
+HasLine (settled last) text = text ≡ line (codes "unknown")
+HasLine (rounds_spent last) text = text ≡ line (codes "unknown")
+HasLine (refused fault) text = ⊥
 
--- the search of what is asserted ends, and its line says how
-pub record IsSearched (now : Assertions) (text : List ℕ) : Type 0 where
+-- the search of what is asserted, with so many rounds, ends, and its line says how
+pub record IsSearched (rounds : ℕ) (now : Assertions) (text : List ℕ) : Type 0 where
   pub ending : Ending
-  pub verdict : Verdict now.formulas (first_branch (held_of now)) ending
-  pub is : text ≡ verdict_line ending
+  pub verdict : Verdict rounds (first_path now.formulas (held_of now)) ending
+  pub has_line : HasLine ending text
 
--- what a task answers to `check-sat`
+-- what a task answers to `check-sat`: a search takes no forall yet, so that it is the same for each number of rounds
 abbrev pub IsCheckResponse : Task → RunState → List ℕ → Type 0
 IsCheckResponse Matches after text = IsListing (names_of after.session) after.assertions.graph.standing text
-IsCheckResponse Solve after text = IsSearched after.assertions text
+IsCheckResponse Solve after text = (rounds : ℕ) → IsSearched rounds after.assertions text
 
 -- `success` is printed as the option stands after the command, but at `reset` as it stood before
 abbrev pub IsResponse : Task → Command → RunState → RunState → List ℕ → Type 0

@@ -17,6 +17,7 @@ pub(crate) fn run_law()
 {
     session_law();
     ground_law();
+    exactly_law();
     one_verdict_law();
 }
 
@@ -38,12 +39,11 @@ pub fn front_law()
     run_law();
 }
 
-/// Where a check is answered by `unsat`, no finite assignment satisfies all that is asserted.
+/// Where a check is answered by `unsat`, finitely many instances of foralls refute all that is asserted.
 pub fn unsat_is_right()
     ensures { UnsatIsRight }
 {
     run_law();
-    exactly_law();
     unsat_law();
 }
 
@@ -53,6 +53,5 @@ pub fn sat_is_right()
     ensures { SatIsRight }
 {
     run_law();
-    exactly_law();
     sat_law();
 }

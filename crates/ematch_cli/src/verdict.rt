@@ -1,5 +1,5 @@
 //! What a search answers.
-ghost use Rattle.std.specs.Prelude.{◌≡◌, [], IfOk};
+ghost use Rattle.std.specs.Prelude.{◌≡◌, ℕ, [], IfOk};
 ghost use Rattle.ematch_cli.specs.Response.{IsSearched};
 ghost use Rattle.ematch_cli.specs.Reply.{outcome_line};
 
@@ -21,7 +21,7 @@ fn outcome_line(outcome: &Outcome) -> &'static [u8]
 /// Searches what is asserted, and gives the line of how that ended. The assertions are as before.
 pub(crate) fn verdict(alloc: Global, stack: &mut AssertionStack) -> Result<Vec<u8>, Memory>
     requires { stack.old.formulas.foralls ≡ [] }
-    ensures value { IfOk result (λ text. IsSearched stack.old text.items) }
+    ensures value { IfOk result (λ text. (rounds : ℕ) → IsSearched rounds stack.old text.items) }
     ensures same { stack.new ≡ stack.old }
 {
     let outcome = check(alloc, stack)?;

@@ -13,6 +13,7 @@ use Rattle.formula_assert.specs.Asserts.{Asserts}
 use Rattle.formula_assert.specs.InLevel.{HoldsMoreOver}
 use Rattle.formula_assert.specs.Mark.{IsMark}
 use Rattle.search_laws.specs.Branch.{first_branch}
+use Rattle.search_laws.specs.Path.{first_path}
 use Rattle.search_laws.specs.Verdict.{unsat, sat, Verdict}
 use Rattle.search_branch.specs.declared.branch_values.BranchValues.{BranchValues}
 use Rattle.search_branch.specs.declared.step.Step.{Step}
@@ -21,7 +22,7 @@ use Rattle.search_branch.specs.Right.{AreValuesOf}
 use Rattle.search_branch.specs.Levels.{IsLevelOver}
 use Rattle.search_branch.specs.Steps.{branch_of, IsStep}
 use Rattle.search_check.specs.declared.aside.Aside.{Aside}
-use Rattle.search_check.specs.UnderWay.{Half, IsHalfway, AreHalves, IsOnTheWay, IsUnderWay, IsAgainAt}
+use Rattle.search_check.specs.UnderWay.{Half, IsHalfway, AreHalves, path_of, IsOnTheWay, IsUnderWay, IsAgainAt}
 use Rattle.search_check.proofs.OverLemmas.{over_same}
 use Rattle.search_check.proofs.LiveLemmas.{none_live}
 use Rattle.search_check.proofs.WayLemmas.{starts, steps, ends, splits, takes_up, loses}
@@ -123,7 +124,8 @@ module _ (start now : Assertions) (asides : List Aside) (struck : List (ℕ × �
 
   -- nothing is open
   pub ends_here : IsStep now.formulas (branch_of now struck) WayOut →
-      Verdict start.formulas (first_branch (held_of start)) (sat (branch_of now struck))
+      (rounds : ℕ) →
+      Verdict rounds (first_path start.formulas (held_of start)) (sat (path_of start.formulas (branch_of now struck)))
   ends_here is = let step = step_at_start WayOut is in
       ends start.formulas (first_branch (held_of start)) under_way.halves (branch_of now struck) under_way.way
       step.0 step.1 step.2
@@ -134,12 +136,12 @@ module _ (start now : Assertions) (asides : List Aside) (struck : List (ℕ × �
 
   -- nothing was put aside, and a conflict loses the search
   pub none_left : asides ≡ [] → IsStep now.formulas (branch_of now struck) Lost →
-      Verdict start.formulas (first_branch (held_of start)) unsat
+      (rounds : ℕ) → Verdict rounds (first_path start.formulas (held_of start)) unsat
   none_left is step = by under_way.halves under_way.are under_way.way
     where
       by : (halves : List Half) → AreHalves start halves asides now struck values →
           IsOnTheWay start.formulas (first_branch (held_of start)) halves (branch_of now struck) →
-          Verdict start.formulas (first_branch (held_of start)) unsat
+          (rounds : ℕ) → Verdict rounds (first_path start.formulas (held_of start)) unsat
       by [] are way =
           loses start.formulas (first_branch (held_of start)) (branch_of now struck) way (step_at_start Lost step)
       by (half ∷ halves) are way = absurd (not_none are.0 half.aside (sym are.1 ∙ is))

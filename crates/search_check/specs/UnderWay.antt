@@ -8,6 +8,7 @@ use Rattle.formula_assert.specs.Assertions.{Assertions, held_of}
 use Rattle.formula_assert.specs.InLevel.{HoldsMoreOver}
 use Rattle.formula_assert.specs.Mark.{IsMark}
 use Rattle.search_laws.specs.Branch.{Branch, first_branch, with_struck}
+use Rattle.search_laws.specs.Path.{Path}
 use Rattle.search_laws.specs.Verdict.{Ending, unsat, Verdict}
 use Rattle.search_branch.specs.declared.branch_values.BranchValues.{BranchValues}
 use Rattle.search_branch.specs.Right.{AreValuesOf}
@@ -57,18 +58,24 @@ AreHalves start (half ∷ halves) asides now struck values = (earlier : List Asi
     (asides ≡ earlier ++ half.aside ∷ []) × IsHalfway half now struck values ×
     AreHalves start halves earlier half.before half.struck half.values
 
+-- the path on which the branch stands over these formulas, with nothing done and no round spent
+abbrev pub path_of : Formulas → Branch → Path
+path_of formulas branch = record { formulas = formulas; branch = branch; done = []; spent = [] }
+
 -- where the search at hand ends as the first, the search with these second halves ends as the second
-pub data Unwinds (formulas : Formulas) : List Half → Ending → Ending → Type 0 where
-  none : {ending : Ending} → Unwinds formulas [] ending ending
+pub data Unwinds (rounds : ℕ) (formulas : Formulas) : List Half → Ending → Ending → Type 0 where
+  none : {ending : Ending} → Unwinds rounds formulas [] ending ending
   kept : {half : Half} {halves : List Half} {ending last : Ending} → ending ≢ unsat →
-      Unwinds formulas halves ending last → Unwinds formulas (half ∷ halves) ending last
-  next : {half : Half} {halves : List Half} {ending last : Ending} → Verdict formulas (second_branch half) ending →
-      Unwinds formulas halves ending last → Unwinds formulas (half ∷ halves) unsat last
+      Unwinds rounds formulas halves ending last → Unwinds rounds formulas (half ∷ halves) ending last
+  next : {half : Half} {halves : List Half} {ending last : Ending} →
+      Verdict rounds (path_of formulas (second_branch half)) ending → Unwinds rounds formulas halves ending last →
+      Unwinds rounds formulas (half ∷ halves) unsat last
 
 -- however the search at hand ends, the whole search from the first branch ends with these second halves
 abbrev pub IsOnTheWay : Formulas → Branch → List Half → Branch → Type 0
-IsOnTheWay formulas first halves branch = (ending last : Ending) → Verdict formulas branch ending →
-    Unwinds formulas halves ending last → Verdict formulas first last
+IsOnTheWay formulas first halves branch = (rounds : ℕ) (ending last : Ending) →
+    Verdict rounds (path_of formulas branch) ending → Unwinds rounds formulas halves ending last →
+    Verdict rounds (path_of formulas first) last
 
 -- the search of what stood at the start, without foralls, is under way, and the values are those of what stands
 pub record IsUnderWay (start now : Assertions) (asides : List Aside) (struck : List (ℕ × ℕ)) (values : BranchValues) :
@@ -103,4 +110,4 @@ IsBackAt start now search aside = IsAgainAt start now search.asides.items (take 
 -- the search goes on, or this is its outcome
 abbrev pub GoesOn : Assertions → Assertions → Search → Option Outcome → Type 0
 GoesOn start now search None = IsSearching start now search
-GoesOn start now search (Some outcome) = IsVerdictOf start.formulas (held_of start) outcome
+GoesOn start now search (Some outcome) = (rounds : ℕ) → IsVerdictOf rounds start.formulas (held_of start) outcome

@@ -1,5 +1,5 @@
 //! Decides what stands.
-ghost use Rattle.std.specs.Prelude.{◌≡◌, [], IfOk};
+ghost use Rattle.std.specs.Prelude.{◌≡◌, ℕ, [], IfOk};
 ghost use Rattle.formula_assert.specs.Assertions.{held_of};
 ghost use Rattle.formula_assert.specs.Exactly.{HoldsExactly};
 ghost use Rattle.formula_assert.specs.InLevel.{HoldsMoreOver, KeepsLevels};
@@ -16,7 +16,7 @@ use std::alloc::Global;
 /// Searches what the stack holds. More is held after it, in the same levels.
 fn search(alloc: Global, stack: &mut AssertionStack) -> Result<Outcome, Memory>
     requires { stack.old.formulas.foralls ≡ [] }
-    ensures verdict { IfOk result (IsVerdictOf stack.old.formulas (held_of stack.old)) }
+    ensures verdict { IfOk result (λ outcome. (rounds : ℕ) → IsVerdictOf rounds stack.old.formulas (held_of stack.old) outcome) }
     ensures more { HoldsMoreOver stack.old stack.new }
     ensures levels { KeepsLevels stack.old stack.new }
 {
@@ -30,15 +30,16 @@ fn search(alloc: Global, stack: &mut AssertionStack) -> Result<Outcome, Memory>
     Err(Memory)
 }
 
-/// Decides what the stack holds by the plain search. Whatever is answered, the stack is as before.
+/// Decides what the stack holds by the plain search, which spends no round where no forall stands. Whatever is answered,
+/// the stack is as before.
 ///
-/// Where what is held is exactly what the asserted nodes stand for, `Unsat` tells that no finite assignment satisfies what
-/// is asserted, and the leaders that come with `Sat` make one that does.
+/// Where what is held is exactly what the asserted nodes stand for, `Unsat` tells that finitely many instances of foralls
+/// refute what is asserted, and the leaders that come with `Sat` make an assignment that satisfies it.
 ///
 /// `Memory` comes where memory is refused, or a count would have passed the greatest number of its type.
 pub fn check(alloc: Global, stack: &mut AssertionStack) -> Result<Outcome, Memory>
     requires ground { stack.old.formulas.foralls ≡ [] }
-    ensures verdict { IfOk result (IsVerdictOf stack.old.formulas (held_of stack.old)) }
+    ensures verdict { IfOk result (λ outcome. (rounds : ℕ) → IsVerdictOf rounds stack.old.formulas (held_of stack.old) outcome) }
     ensures tells { IfOk result (λ outcome. HoldsExactly stack.old.formulas (held_of stack.old) → TellsOfAssignments stack.old.formulas (held_of stack.old) outcome) }
     ensures same { stack.new ≡ stack.old }
 {

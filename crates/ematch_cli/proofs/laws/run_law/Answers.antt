@@ -10,5 +10,11 @@ returns c = record {
     ended = c.ground_law.ensures.ended;
     asserted = c.ground_law.ensures.asserted;
   };
+  exact = record {
+    starts = c.exactly_law.ensures.start;
+    opened = c.exactly_law.ensures.opened;
+    ended = c.exactly_law.ensures.ended;
+    asserted = c.exactly_law.ensures.asserted;
+  };
   verdict = c.one_verdict_law.ensures;
 }
