@@ -49,7 +49,7 @@ impl Search {
     {
         let asides = Vec::new(alloc);
         let struck = Vec::new(alloc);
-        let values = BranchValues::new(alloc, stack)?;
+        let values = BranchValues::new(alloc, stack, &[])?;
         Ok(Search {
             asides,
             struck,
