@@ -1,8 +1,9 @@
 -- Values of a branch at the start, and the next step by them.
-use Rattle.std.proofs.Common.{◌≡◌, inl, inr, ◌↔◌, ℕ, ◌<◌, true, IsTrue, List, [], length, map, sym, ap, subst}
-use Rattle.std.proofs.Common.{◌∙◌, arith}
+use Rattle.std.proofs.Common.{◌≡◌, inl, inr, ◌↔◌, ℕ, ◌<◌, true, IsTrue, List, length, map, Contains, sym, ap, subst}
+use Rattle.std.proofs.Common.{◌∙◌}
 use Rattle.std.proofs.lemmas.List.{length-map}
 use Rattle.formula_table.specs.Formulas.{IsFormulaTable}
+use Rattle.formula_truth.specs.declared.truth.Truth.{Truth}
 use Rattle.formula_assert.specs.Assertions.{Assertions, held_of}
 use Rattle.search_values.specs.Given.{Given}
 use Rattle.search_values.specs.Kept.{given_of}
@@ -10,11 +11,12 @@ use Rattle.search_watch.specs.Service.{Serves, HasClash, service}
 use Rattle.search_laws.specs.Closing as closing
 use Rattle.search_branch.specs.declared.branch_values.BranchValues.{BranchValues}
 use Rattle.search_branch.specs.declared.step.Step.TheVariants.{Lost}
-use Rattle.search_branch.specs.Given.{IsGivenBy, kind_in, ends_of}
+use Rattle.search_branch.specs.Given.{IsGivenBy, IsLeafTruth, kind_in, ends_of, forall_truth}
 use Rattle.search_branch.specs.Right.{AreValuesOf}
 use Rattle.search_branch.specs.Steps.{IsStep, branch_of}
 use Rattle.search_branch.specs.Built.{AreFresh}
 use Rattle.search_branch.specs.Told.{TellsAll}
+use Rattle.search_branch.specs.Struck.{StrikesAll}
 
 -- ---- the next step
 
@@ -29,38 +31,54 @@ module _ (now : Assertions) (struck : List (ℕ × ℕ)) (values : BranchValues)
 
 -- ---- values at the start
 
--- what is told to nodes of which nothing was told is what they are given, with nothing struck
-told_given : (now : Assertions) (old new : Given) → AreFresh now.formulas.nodes old → TellsAll now old new →
-    IsGivenBy now.formulas (held_of now) [] new
-told_given now old new fresh tells = record {
-  kinds = kinds;
-  parts = tells.parts ∙ fresh.parts;
-  leaf = tells.told;
-  foralls = tells.foralls;
-  asserted = λ n stands. tells.asserted n (subst (λ (count : ℕ). n < count) (sym many) stands);
-  struck_are = λ n place stands. (
-    λ on. absurd (not_struck n place stands on),
-    λ among. absurd (omega (arith, among.1)),
-  );
-}
-  where
-    kinds : new.kinds ≡ map kind_in now.formulas.nodes
-    kinds = tells.kinds ∙ fresh.kinds
+-- what is told to nodes of which nothing was told, and struck then, is what they are given
+module _ (now : Assertions) (struck : List (ℕ × ℕ)) (old mid new : Given) (fresh : AreFresh now.formulas.nodes old)
+    (tells : TellsAll now old mid) (strikes : StrikesAll struck mid new) where
+  kinds_told : mid.kinds ≡ map kind_in now.formulas.nodes
+  kinds_told = tells.kinds ∙ fresh.kinds
 
-    many : length new.kinds ≡ length now.formulas.nodes
-    many = ap length kinds ∙ length-map now.formulas.nodes kind_in
+  many : length mid.kinds ≡ length now.formulas.nodes
+  many = ap length kinds_told ∙ length-map now.formulas.nodes kind_in
 
-    not_struck : (n place : ℕ) → n < length now.formulas.nodes → new.struck n place ≡ true → ⊥
-    not_struck n place stands on = cc (tells.struck n place, fresh.struck n place stands, on)
+  -- nothing was struck before
+  not_struck : (n place : ℕ) → n < length now.formulas.nodes → mid.struck n place ≡ true → ⊥
+  not_struck n place stands on = cc (tells.struck n place, fresh.struck n place stands, on)
 
--- the values are right where all was told
-pub right_start : (now : Assertions) (fresh : Given) (values : BranchValues) → IsFormulaTable now.formulas →
-    (IsTrue values.lost ↔ HasClash now.graph.standing) →
-    AreFresh now.formulas.nodes fresh → TellsAll now fresh (given_of values.values) →
+  just_these : (n place : ℕ) → n < length now.formulas.nodes →
+      (new.struck n place ≡ true) ↔ Contains struck (n, place)
+  just_these n place stands = (
+    λ on. elim ((strikes.struck n place).0 on) [
+      | inl before ↦ absurd (not_struck n place stands before)
+      | inr among ↦ among
+    ],
+    λ among. (strikes.struck n place).1 (inr among),
+  )
+
+  told_given : IsGivenBy now.formulas (held_of now) struck new
+  told_given = record {
+    kinds = strikes.kinds ∙ kinds_told;
+    parts = strikes.parts ∙ tells.parts ∙ fresh.parts;
+    leaf = λ n leaf has. subst (λ (truth : Truth). IsLeafTruth now.graph.standing leaf truth)
+        (sym (strikes.leaf n)) (tells.told n leaf has);
+    foralls = λ n forall has. strikes.leaf n ∙ tells.foralls n forall has
+        ∙ ap forall_truth (sym (strikes.asserted n));
+    asserted = λ n stands.
+        let was = tells.asserted n (subst (λ (count : ℕ). n < count) (sym many) stands) in
+        (λ on. was.0 (sym (strikes.asserted n) ∙ on), λ on. strikes.asserted n ∙ was.1 on);
+    struck_are = just_these;
+  }
+
+-- the values are right where all was told, and these places were struck then
+pub right_start : (now : Assertions) (struck : List (ℕ × ℕ)) (fresh told : Given) (values : BranchValues) →
+    IsFormulaTable now.formulas → (IsTrue values.lost ↔ HasClash now.graph.standing) →
+    AreFresh now.formulas.nodes fresh → TellsAll now fresh told → StrikesAll struck told (given_of values.values) →
     Serves (service now.graph.standing (ends_of 0 now.formulas.nodes) (length now.formulas.nodes)) values.watch →
-    AreValuesOf now [] values
-right_start now fresh values table lost are_fresh tells serves = record {
+    AreValuesOf now struck values
+right_start now struck fresh told values table lost are_fresh tells strikes serves = record {
   table = table;
   lost = lost;
-  current = λ _. record { given = told_given now fresh (given_of values.values) are_fresh tells; serves = serves };
+  current = λ _. record {
+    given = told_given now struck fresh told (given_of values.values) are_fresh tells strikes;
+    serves = serves;
+  };
 }

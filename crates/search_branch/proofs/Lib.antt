@@ -11,6 +11,7 @@ pub mod BuildLemmas
 pub mod FollowLemmas
 pub mod ComeLemmas
 pub mod ToldLemmas
+pub mod StruckLemmas
 pub mod BranchLemmas
 pub mod ForallLemmas
 pub mod AssertLemmas

@@ -4,3 +4,4 @@ pub mod Right
 pub mod Levels
 pub mod Told
 pub mod Built
+pub mod Struck

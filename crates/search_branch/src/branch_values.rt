@@ -1,5 +1,5 @@
 //! The values of all formulas in a branch of the search.
-ghost use Rattle.std.specs.Prelude.{◌≡◌, ℕ, ◌<◌, ◌≤◌, ◌++◌, ◌∷◌, false, List, [], length, slice_get, Some, IfOk, OnOk};
+ghost use Rattle.std.specs.Prelude.{◌≡◌, ℕ, ◌<◌, ◌≤◌, ◌++◌, ◌∷◌, false, List, [], length, slice_get, Some, All, IfOk, OnOk};
 ghost use Rattle.formula_table.specs.declared.node.Node.TheVariants.{Or};
 ghost use Rattle.formula_value.specs.Holds.{HasNode};
 ghost use Rattle.formula_table.specs.declared.node.Node.{Node as SpecNode};
@@ -13,11 +13,12 @@ ghost use Rattle.search_branch.specs.Right.{AreValuesOf};
 ghost use Rattle.search_branch.specs.Levels.{IsLevelOver};
 ghost use Rattle.search_branch.specs.Steps.{IsStep, IsWithin, branch_of};
 ghost use Rattle.search_branch.specs.Told.{HasCome};
+ghost use Rattle.search_branch.specs.Struck.{IsPlaceOf};
 
 use crate::build::{is_lost, nodes_of, watch_of};
 use crate::next::next_of;
 use crate::step::Step;
-use crate::tell::{tell_all, tell_start};
+use crate::tell::{strike_each, tell_all, tell_start};
 use formula_assert::AssertionStack;
 use graph_meaning::Union;
 use graph_terms::Memory;
@@ -42,14 +43,20 @@ pub struct BranchValues {
 }
 
 impl BranchValues {
-    /// The values of all formulas by what the stack holds; nothing is struck, and no level is open.
-    pub fn new(alloc: Global, stack: &AssertionStack) -> Result<BranchValues, Memory>
-        ensures { IfOk result (λ values. AreValuesOf stack.now [] values) }
+    /// The values of all formulas by what the stack holds, where these places of disjunctions are struck; no level is open.
+    pub fn new(
+        alloc: Global,
+        stack: &AssertionStack,
+        struck: &[(u32, u32)],
+    ) -> Result<BranchValues, Memory>
+        requires places { All (IsPlaceOf stack.now.formulas.nodes) struck.now }
+        ensures { IfOk result (AreValuesOf stack.now struck.now) }
     {
         let _rules = stack.depth();
         let watch = watch_of(alloc, stack)?;
         let mut values = nodes_of(alloc, stack.formulas())?;
         tell_start(&mut values, &watch, stack)?;
+        strike_each(&mut values, struck)?;
         let lost = is_lost(stack.graph());
         Ok(BranchValues {
             values,

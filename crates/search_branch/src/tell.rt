@@ -1,6 +1,6 @@
 //! What came is told to the values of nodes.
 ghost use Rattle.std.specs.Prelude.{◌≡◌, ℕ, ◌<◌, ◌≤◌, length, map, take, All, Contains, OnOk};
-ghost use Rattle.search_values.specs.Given.{kind_of};
+ghost use Rattle.search_values.specs.Given.{kind_of, HasPlace};
 ghost use Rattle.search_values.specs.Kept.{given_of};
 ghost use Rattle.search_watch.specs.Service.{ServesNow};
 ghost use Rattle.search_branch.specs.Given.{kind_in, AreForallValues};
@@ -8,6 +8,7 @@ ghost use Rattle.formula_truth.specs.declared.truth.Truth.TheVariants.{Unset};
 ghost use Rattle.search_branch.specs.Built.{AreFresh};
 ghost use Rattle.search_branch.specs.Told.{KeepsNodes, KeepsLeaves, TellsLeaf, AreToldBut, AreTold, AreAsserted};
 ghost use Rattle.search_branch.specs.Told.{TellsForall, AssertsNode, TellsAll};
+ghost use Rattle.search_branch.specs.Struck.{StrikesAll};
 
 use crate::leaf::leaf_truth;
 use formula_assert::AssertionStack;
@@ -174,5 +175,17 @@ pub(crate) fn tell_start(
 {
     set_each(values, watch, stack)?;
     assert_new(values, stack.formulas(), stack.asserted(), 0)?;
+    Ok(())
+}
+
+/// Strikes each of these places of nodes; one that is struck already stays so.
+pub(crate) fn strike_each(values: &mut NodeValues, struck: &[(u32, u32)]) -> Result<(), AllocError>
+    requires places { All (λ at. HasPlace (given_of values.old) at.0 at.1) struck.now }
+    ensures strikes { OnOk result (StrikesAll struck.now (given_of values.old) (given_of values.new)) }
+    ensures saved { values.new.saved ≡ values.old.saved }
+{
+    for i in 0..struck.len() {
+        values.strike(struck[i].0, struck[i].1)?;
+    }
     Ok(())
 }
