@@ -7,7 +7,7 @@ use std::alloc::Global;
 use std::test::Fail;
 
 /// For each x the atom of a function over x, without triggers.
-pub(crate) fn atom_of_each(alloc: Global) -> Result<Formula, DraftFault> {
+fn atom_of_each(alloc: Global) -> Result<Formula, DraftFault> {
     let mut draft = FormulaDraft::new(alloc, 4, 4);
     let x = draft.row(DraftRow::Var { index: 0 })?;
     let args = Numbers::from_slice(alloc, &[x])?;
