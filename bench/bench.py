@@ -4,7 +4,7 @@
     bench/bench.py PROGRAM [--n N] [--only WORD] [--seconds S]
 
 PROGRAM is the built program `ematch`. Each kind of script is made for n, 2n and 4n, and given to `PROGRAM matches` on
-standard input, or to `PROGRAM solve` where it has no forall and asks for verdicts. A line for each run gives the seconds
+standard input, or to `PROGRAM --rounds 1000 solve` where it asks for verdicts. A line for each run gives the seconds
 that it took by the clock, the most memory that it held, how many matches it listed in all or how many verdicts of each
 kind it gave, and how many times longer it took than the run before: about 2 where the time grows with n, about 4 where it
 grows with the square of n. Where `z3` or `cvc5` are installed (`apt-get install z3 cvc5`), they are given
@@ -251,6 +251,32 @@ def wide_clause(n):
     return script.check()
 
 
+def updates(n):
+    """A heap that is updated at n distinct references, and a read of the first of them that is not what was written."""
+    script = Script([("update", 3), ("select", 2)], constants("h", n + 1) + constants("r", n) + constants("v", n))
+    bound = "(h U) (r U) (v U)"
+    script.add(f"(assert (forall ({bound}) (! (= (select (update h r v) r) v) :pattern ((update h r v)))))")
+    script.add(f"(assert (forall ({bound} (s U)) (! (or (= r s) (= (select (update h r v) s) (select h s))) "
+               ":pattern ((select (update h r v) s)))))")
+    for k in range(n):
+        script.equal(f"h{k + 1}", f"(update h{k} r{k} v{k})")
+    script.add(f"(assert (distinct {' '.join(constants('r', n))}))")
+    script.add(f"(assert (not (= (select h{n} r0) v0)))")
+    return script.check()
+
+
+def steps(n):
+    """n axioms, each of which has a match by the instance of the one before."""
+    script = Script([], ["c"])
+    for k in range(n + 1):
+        script.add(f"(declare-fun p{k} (U) Bool)")
+    for k in range(n):
+        script.add(f"(assert (forall ((x U)) (! (or (not (p{k} x)) (p{k + 1} x)) :pattern ((p{k} x)))))")
+    script.add("(assert (p0 c))")
+    script.add(f"(assert (not (p{n} c)))")
+    return script.check()
+
+
 def splits(n):
     """So many independent splits that they have n ends, each of which is lost."""
     count = max(1, n.bit_length() - 1)
@@ -284,7 +310,12 @@ KINDS = [
     ("scopes", "solve", scopes),
     ("wide clause", "solve", wide_clause),
     ("splits", "solve", splits),
+    ("updates", "solve", updates),
+    ("steps", "solve", steps),
 ]
+
+# the words of the command line for each task; a search may spend as many rounds as may be asked for
+WORDS = {"matches": ["matches"], "solve": ["--rounds", "1000", "solve"]}
 
 
 def run(command, script, seconds):
@@ -333,14 +364,14 @@ def summary(task, matches, verdicts):
     """What a run told, in a few words."""
     if task == "matches":
         return f"{matches:>9} matches"
-    return f"{verdicts.count('sat'):>5} sat {verdicts.count('unsat'):>5} unsat"
+    return f"{verdicts.count('sat'):>5} sat {verdicts.count('unsat'):>5} unsat {verdicts.count('unknown'):>5} unknown"
 
 
 def measure(program, others, kind, task, make, n, seconds):
     before = None
     for size in (n, 2 * n, 4 * n):
         script = ("\n".join(make(size)) + "\n").encode()
-        took, memory, matches, verdicts, status = run([program, task], script, seconds)
+        took, memory, matches, verdicts, status = run([program] + WORDS[task], script, seconds)
         cells = [f"{kind:<13}", f"{size:>8}", f"{took:>9.3f} s"]
         cells.append("" if memory is None else f"{memory:>8.1f} MiB")
         cells.append("" if matches is None else summary(task, matches, verdicts))
