@@ -10,17 +10,17 @@ use std::alloc::{AllocError, Global};
 pub enum Task {
     /// By the matches of each live trigger.
     Matches,
-    /// By how a search ends.
-    Solve,
+    /// By how a search ends, which may spend so many rounds of instances.
+    Solve { rounds: u32 },
 }
 
-/// The task of a job, where it is built.
-fn task_of(job: Job) -> Option<Task>
-    ensures { result ≡ task_of job }
+/// The task of a job with so many rounds, where it is built.
+fn task_of(job: Job, rounds: u32) -> Option<Task>
+    ensures { result ≡ task_of job rounds }
 {
     match job {
         Job::Matches => Some(Task::Matches),
-        Job::Solve => Some(Task::Solve),
+        Job::Solve => Some(Task::Solve { rounds }),
         Job::Make { .. } | Job::Drill { .. } => None,
     }
 }
@@ -31,7 +31,7 @@ pub fn task_asked(alloc: Global, words: &[String]) -> Result<Option<Task>, Alloc
     ensures { IfOk result (λ task. task ≡ task_asked words.now) }
 {
     match read_words(alloc, words) {
-        Ok(asked) if asked.workers == 0 => Ok(task_of(asked.job)),
+        Ok(asked) if asked.workers == 0 => Ok(task_of(asked.job, asked.rounds)),
         Ok(_) | Err(WordsFault::Refused) => Ok(None),
         Err(WordsFault::Memory) => Err(AllocError),
     }

@@ -6,5 +6,5 @@ pub mod OneAnswer
 pub mod Reached
 pub mod Exits
 pub mod Steps
+pub mod Answering
 pub mod RefutedLaws
-pub mod Searched

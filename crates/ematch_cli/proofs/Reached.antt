@@ -77,13 +77,13 @@ module _ (task : Task) (limits : Limits) where
 
   module _ (law : RunLaws) where
     -- what the commands leave is right
-    pub right_after_all : (commands : List (List Word)) (state later : RunState) (text : List ℕ) → IsRight task state → RepliesAll task limits state commands later text → IsRight task later
-    right_after_all [] state later text right (is, none) = subst (IsRight task) (sym is) right
+    pub right_after_all : (commands : List (List Word)) (state later : RunState) (text : List ℕ) → IsRight state → RepliesAll task limits state commands later text → IsRight later
+    right_after_all [] state later text right (is, none) = subst IsRight (sym is) right
     right_after_all (words ∷ commands) state later text right (command, mid, first, others, goes, one, all, is) = right_after_all commands mid later others (right_after task limits law state words command mid first right one) all
 
     -- and only that is answered
     behind_only : (known : Bool) (commands : List (List Word)) (rest : Script) (state later : RunState) (text : List ℕ) (answer : Answer)
-        → IsRight task state → RepliesAll task limits state commands later text → IsAnswer task limits known (commands_then commands rest) state answer → (after : Answer) × IsAnswer task limits known rest later after × (answer ≡ behind text after)
+        → IsRight state → RepliesAll task limits state commands later text → IsAnswer task limits known (commands_then commands rest) state answer → (after : Answer) × IsAnswer task limits known rest later after × (answer ≡ behind text after)
     unfolding IsAnswer
     behind_only known [] rest state later text answer right (is, none) answered =
         (answer, subst (λ (s : RunState). IsAnswer task limits known rest s answer) (sym is) answered, ap (λ (t : List ℕ). behind t answer) (sym none))
@@ -168,15 +168,15 @@ module _ (task : Task) (limits : Limits) (in0 in1 out0 out1 : Option (List ℕ))
   -- and there is no other
   pub answered_only : (known : Bool) (answer : Answer) → IsAnswer task limits known (script_of limits reached.taken) (opening limits) answer → (after : Answer) × IsAnswer task limits known (rest []) now after × (answer ≡ behind reached.text after)
   answered_only known answer is =
-      behind_only task limits reached.law known reached.commands (rest []) (opening limits) now reached.text answer (right_opening reached.law task limits) reached.replied (subst (λ (s : Script). IsAnswer task limits known s (opening limits) answer) at_taken is)
+      behind_only task limits reached.law known reached.commands (rest []) (opening limits) now reached.text answer (right_opening reached.law limits) reached.replied (subst (λ (s : Script). IsAnswer task limits known s (opening limits) answer) at_taken is)
 
   -- where what is left is answered by this alone, so is all that was taken
   pub ends_only : (known : Bool) (end answer : Answer) → ((after : Answer) → IsAnswer task limits known (rest []) now after → after ≡ end) → IsAnswer task limits known (script_of limits reached.taken) (opening limits) answer → answer.ending ≡ end.ending
   ends_only known end answer only is = let inner = answered_only known answer is in ap (λ (a : Answer). a.ending) inner.2 ∙ ap (λ (a : Answer). a.ending) (only inner.0 inner.1)
 
   -- what stands is right
-  pub right_now : IsRight task now
-  right_now = right_after_all task limits reached.law reached.commands (opening limits) now reached.text (right_opening reached.law task limits) reached.replied
+  pub right_now : IsRight now
+  right_now = right_after_all task limits reached.law reached.commands (opening limits) now reached.text (right_opening reached.law limits) reached.replied
 
   -- a front of what answers what is left is one of all behind the text
   pub front_taken : (known : Bool) (front : List ℕ) → IsAnswerFront task limits known (rest []) now front → IsAnswerFront task limits known (script_of limits reached.taken) (opening limits) (reached.text ++ front)

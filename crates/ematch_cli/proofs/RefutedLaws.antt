@@ -16,8 +16,8 @@ use Rattle.ematch_cli.specs.Satisfied.{SatIsRight}
 use Rattle.ematch_cli.proofs.OneAnswer.{IsRight, right_opening, right_after, in_order}
 
 module _ (task : Task) (limits : Limits) (law : RunLaws) where
-  right_where : {now : RunState} → ComesAbout task limits now → IsRight task now
-  right_where at_first = right_opening law task limits
+  right_where : {now : RunState} → ComesAbout task limits now → IsRight now
+  right_where at_first = right_opening law limits
   right_where (by_command {now} {later} {words} {command} {text} comes replies) =
       right_after task limits law now words command later text (right_where comes) replies
 
@@ -39,10 +39,9 @@ unsat_line (rounds_spent last) e = absurd (lines_differ e)
 unsat_line (refused fault) e = absurd e
 
 pub unsat_right : RunLaws → UnsatRefutes → UnsatIsRight
-unsat_right law refutes limits now comes response =
-    let searched = response 0 in
-    refutes 0 now.assertions.formulas (held_of now.assertions) (in_order Solve now (right_where Solve limits law comes))
-    (subst (Verdict 0 (first_path now.assertions.formulas (held_of now.assertions)))
+unsat_right law refutes rounds limits now comes searched =
+    refutes rounds now.assertions.formulas (held_of now.assertions) (in_order now (right_where (Solve rounds) limits law comes))
+    (subst (Verdict rounds (first_path now.assertions.formulas (held_of now.assertions)))
     (unsat_line searched.ending searched.has_line) searched.verdict)
 
 sat_line : (ending : Ending) → HasLine ending (line (codes "sat")) → (last : Path) × (ending ≡ sat last)
@@ -62,9 +61,8 @@ sat_line (rounds_spent last) e = absurd (lines_differ e)
 sat_line (refused fault) e = absurd e
 
 pub sat_right : RunLaws → SatSatisfies → SatIsRight
-sat_right law satisfies limits now comes response rounds =
-    let right = right_where Solve limits law comes in
-    let searched = response rounds in
+sat_right law satisfies rounds limits now comes searched =
+    let right = right_where (Solve rounds) limits law comes in
     let found = sat_line searched.ending searched.has_line in
     let verdict : Verdict rounds (first_path now.assertions.formulas (held_of now.assertions)) (sat found.0) =
     subst (Verdict rounds (first_path now.assertions.formulas (held_of now.assertions))) found.1 searched.verdict in
@@ -72,5 +70,5 @@ sat_right law satisfies limits now comes response rounds =
       last = found.0;
       verdict = verdict;
       satisfies = λ predicates leaders are keeps. satisfies rounds now.assertions.formulas (held_of now.assertions)
-          found.0 leaders predicates (in_order Solve now right) verdict are keeps;
+          found.0 leaders predicates (in_order now right) verdict are keeps;
     }

@@ -67,10 +67,6 @@ room_text TermsFull = codes "too many terms"
 room_text NodesFull = codes "too many formula nodes"
 room_text Memory = []
 
--- the line of an assertion for which there is no room, at the parenthesis of its command
+-- the line of an assertion or of a search for which there is no room, at the parenthesis of its command
 abbrev pub room_line : List Word → EnterFault → List ℕ
 room_line words fault = error_line (unwrap_or (first_place words) start) (room_text fault)
-
--- the line of an assertion that the task does not take yet, at the parenthesis of its command
-abbrev pub unbuilt_line : List Word → List ℕ
-unbuilt_line words = error_line (unwrap_or (first_place words) start) (codes "not built yet")

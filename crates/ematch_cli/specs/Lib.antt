@@ -2,7 +2,6 @@ pub mod Joined
 pub mod Listing
 pub mod RunState
 pub mod ErrorLine
-pub mod Takes
 pub mod Response
 pub mod Run
 pub mod Status

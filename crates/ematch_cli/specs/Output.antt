@@ -1,5 +1,5 @@
 -- The defined answer to a script.
-use Rattle.std.specs.Prelude.{◌≡◌, ◌≢◌, ◌⊎◌, ℕ, Bool, true, false, List, [], ◌++◌}
+use Rattle.std.specs.Prelude.{◌≡◌, ◌≢◌, ◌⊎◌, ℕ, Bool, true, false, List, [], ◌++◌, None}
 use Rattle.em_outside.specs.declared.limits.Limits.{Limits}
 use Rattle.smt_text.specs.Script.{Script, End, Fault, Command, script_of}
 use Rattle.smt_text.specs.declared.byte_fault.ByteFault.{ByteFault}
@@ -84,7 +84,7 @@ IsAnswerFront task limits known (Command words rest) state bytes =
 
 -- before the first command
 abbrev pub opening : Limits → RunState
-opening limits = run_state (at_start limits) (no_assertions limits.terms limits.nodes)
+opening limits = run_state (at_start limits) (no_assertions limits.terms limits.nodes) None
 
 -- the answer to all the bytes of a script
 abbrev pub IsOutput : Task → Limits → List ℕ → Answer → Type 0

@@ -13,8 +13,8 @@ use Rattle.ematch_cli.specs.Refuted.{ComesAbout}
 use Rattle.ematch_cli.specs.Response.{IsCheckResponse}
 use Rattle.ematch_cli.specs.RunState.{RunState}
 
--- The search of what is asserted, with so many rounds, ends in this branch. The leaders of its terms make an
--- assignment, and that satisfies all that is asserted, whichever symbols are the predicates, if the sorts are kept to.
+-- The search of what is asserted, with so many rounds, ends in this branch. The leaders of its terms make an assignment,
+-- and that satisfies all that is asserted, whichever symbols are the predicates, if the sorts are kept to.
 pub record IsSatisfied (rounds : ℕ) (now : Assertions) : Type 0 where
   pub last : Path
   pub verdict : Verdict rounds (first_path now.formulas (held_of now)) (sat last)
@@ -22,7 +22,7 @@ pub record IsSatisfied (rounds : ℕ) (now : Assertions) : Type 0 where
       KeepsSorts predicates (terms_of now.graph.standing) now.formulas.nodes →
       IsWayOut predicates leaders now.formulas (held_of now) last.branch
 
--- `sat` is answered only where the search has such a branch, however many rounds it has
+-- `sat` is answered only where the search has such a branch, however many rounds it may have
 abbrev pub SatIsRight : Type 0
-SatIsRight = (limits : Limits) (now : RunState) → ComesAbout Solve limits now →
-    IsCheckResponse Solve now (line (codes "sat")) → (rounds : ℕ) → IsSatisfied rounds now.assertions
+SatIsRight = (rounds : ℕ) (limits : Limits) (now : RunState) → ComesAbout (Solve rounds) limits now →
+    IsCheckResponse (Solve rounds) now (line (codes "sat")) → IsSatisfied rounds now.assertions

@@ -2,7 +2,7 @@
 ghost use Rattle.std.specs.Prelude.{◌≡◌, ◌++◌, ◌∷◌, [], unwrap_or, IfOk, OnOk};
 ghost use Rattle.smt_text.specs.Word.{first_place};
 ghost use Rattle.smt_commands.specs.Commands.{start};
-ghost use Rattle.ematch_cli.specs.ErrorLine.{error_line, fault_text, fault_line, quoted, refusal_text, refusal_line, room_text, room_line, unbuilt_line};
+ghost use Rattle.ematch_cli.specs.ErrorLine.{error_line, fault_text, fault_line, quoted, refusal_text, refusal_line, room_text, room_line};
 
 use em_printing::push_number;
 use formula_table::EnterFault;
@@ -137,7 +137,7 @@ fn place_of(tree: &Tree) -> Place
     tree.token(0).place
 }
 
-/// The line of an assertion for which there is no room.
+/// The line of an assertion or of a search for which there is no room.
 pub(crate) fn room_line(
     alloc: Global,
     tree: &Tree,
@@ -146,11 +146,4 @@ pub(crate) fn room_line(
     ensures { IfOk result (λ text. text.items ≡ room_line tree.now fault) }
 {
     error_line(alloc, place_of(tree), room_text(fault))
-}
-
-/// The line of an assertion that the task does not take yet.
-pub(crate) fn unbuilt_line(alloc: Global, tree: &Tree) -> Result<Vec<u8>, AllocError>
-    ensures { IfOk result (λ text. text.items ≡ unbuilt_line tree.now) }
-{
-    error_line(alloc, place_of(tree), b"not built yet")
 }

@@ -7,7 +7,7 @@ ghost use Rattle.ematch_cli.specs.Satisfied.{SatIsRight};
 ghost use Rattle.ematch_cli.specs.RunLaws.{RunLaws};
 ghost use Rattle.em_words.specs.declared.task.Task.{Task};
 
-use formula_assert::laws::{exactly_law, ground_law};
+use formula_assert::laws::{exactly_law, one_answer_law, tables_law};
 use search_laws::laws::{one_verdict_law, sat_law, unsat_law};
 use smt_commands::laws::session_law;
 
@@ -16,8 +16,9 @@ pub(crate) fn run_law()
     ensures { RunLaws }
 {
     session_law();
-    ground_law();
+    tables_law();
     exactly_law();
+    one_answer_law();
     one_verdict_law();
 }
 

@@ -8,6 +8,7 @@ mod reply;
 mod response;
 mod run;
 mod script;
+mod situation;
 mod status;
 mod unanswered;
 mod verdict;

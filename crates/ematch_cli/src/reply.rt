@@ -1,21 +1,23 @@
 //! What answers a command.
 ghost use Rattle.std.specs.Prelude.{◌≡◌, ◌≤◌, ◌↔◌, IsTrue, IfOk, IfErr, OnOk};
 ghost use Rattle.em_outside.specs.Limits.{AreLawful};
-ghost use Rattle.formula_assert.specs.Assertions.{no_assertions, pushed, popped};
+ghost use Rattle.formula_assert.specs.Assertions.{held_of, no_assertions, pushed, popped};
 ghost use Rattle.formula_assert.specs.AssertFormula.{AssertsFormula};
+ghost use Rattle.formula_assert.specs.Exactly.{AreExact, HoldsExactly};
+ghost use Rattle.formula_assert.specs.Tables.{AreTables};
 ghost use Rattle.smt_commands.specs.declared.command.Command.TheVariants.{Exit};
 ghost use Rattle.ematch_cli.specs.Run.{repeated, Does};
-ghost use Rattle.ematch_cli.specs.Response.{IsCheckResponse, IsResponse};
-ghost use Rattle.ematch_cli.specs.RunState.{RunState, run_state};
-ghost use Rattle.ematch_cli.specs.Reply.{IsReply, IsUnanswered, FindsNoRoomFor, IsUnasserted, IsUndone, IsUnread};
-ghost use Rattle.ematch_cli.specs.Takes.{Takes, Suits};
+ghost use Rattle.ematch_cli.specs.Response.{IsCheckResponse, IsSearched};
+ghost use Rattle.ematch_cli.specs.RunState.{run_state};
+ghost use Rattle.ematch_cli.specs.Reply.{IsReply, IsUnanswered, FindsNoRoomFor, IsUndone, IsUnsearched, IsUnchecked, IsUntold, Tells, IsUnread};
 
-use crate::error_line::{refusal_line, room_line, unbuilt_line};
+use crate::error_line::{refusal_line, room_line};
 use crate::laws::run_law;
 use crate::listing::listing;
 use crate::response::{info_text, success, unsupported};
+use crate::situation::Situation;
 use crate::unanswered::Unanswered;
-use crate::verdict::verdict;
+use crate::verdict::{Checked, verdict};
 use em_outside::Limits;
 use em_words::Task;
 use formula_assert::AssertionStack;
@@ -72,18 +74,8 @@ fn forget(alloc: Global, limits: &Limits, stack: &mut AssertionStack) -> Result<
     Ok(())
 }
 
-/// Whether the task takes the formula: where it searches, the formula holds no forall.
-fn takes(task: Task, formula: &Formula) -> bool
-    ensures { IsTrue result ↔ Takes task formula.now }
-{
-    match task {
-        Task::Matches => true,
-        Task::Solve => formula.foralls() == 0,
-    }
-}
-
 /// Asserts a formula, or gives the line that says that there is no room for it.
-fn assert_taken(
+fn assert_formula(
     alloc: Global,
     stack: &mut AssertionStack,
     tree: &Tree,
@@ -102,39 +94,20 @@ fn assert_taken(
     }
 }
 
-/// Asserts a formula, or gives the line that says that the task does not take it, or that there is no room for it.
-fn assert_formula(
-    alloc: Global,
-    task: Task,
-    stack: &mut AssertionStack,
-    tree: &Tree,
-    formula: &Formula,
-) -> Result<(), Unanswered>
-    ensures ok { OnOk result (Takes task formula.now × AssertsFormula formula.now stack.old stack.new) }
-    ensures refused { IfErr result (IsUnasserted task formula.now stack.old tree.now) }
-{
-    if !takes(task, formula) {
-        let line = unbuilt_line(alloc, tree)?;
-        return Err(Unanswered::Refused { line });
-    }
-    assert_taken(alloc, stack, tree, formula)
-}
-
 /// Does what a command says to the standing assertions.
 fn perform(
     alloc: Global,
-    task: Task,
     limits: &Limits,
     stack: &mut AssertionStack,
     tree: &Tree,
     command: &Command,
 ) -> Result<(), Unanswered>
     requires { AreLawful limits.now }
-    ensures ok { OnOk result (Does task limits.now command.now stack.old stack.new) }
-    ensures refused { IfErr result (IsUndone task command.now stack.old tree.now) }
+    ensures ok { OnOk result (Does limits.now command.now stack.old stack.new) }
+    ensures refused { IfErr result (IsUndone command.now stack.old tree.now) }
 {
     match command {
-        Command::Assert { formula } => assert_formula(alloc, task, stack, tree, formula),
+        Command::Assert { formula } => assert_formula(alloc, stack, tree, formula),
         Command::Push { count } => {
             push_levels(stack, *count)?;
             Ok(())
@@ -155,20 +128,47 @@ fn perform(
     }
 }
 
-/// The text that answers a `check-sat`.
+/// Searches what is asserted, with so many rounds at most, or gives the line that says that there is no room for an instance.
+fn search(
+    alloc: Global,
+    rounds: u32,
+    stack: &mut AssertionStack,
+    tree: &Tree,
+) -> Result<Checked, Unanswered>
+    requires { HoldsExactly stack.old.formulas (held_of stack.old) }
+    ensures value { IfOk result (λ checked. IsSearched rounds stack.old checked.text.items checked.why) }
+    ensures refused { IfErr result (IsUnsearched rounds stack.old tree.now) }
+    ensures same { stack.new ≡ stack.old }
+{
+    match verdict(alloc, stack, rounds) {
+        Ok(checked) => Ok(checked),
+        Err(EnterFault::Memory) => Err(Unanswered::Memory),
+        Err(fault) => {
+            let line = room_line(alloc, tree, fault)?;
+            Err(Unanswered::Refused { line })
+        }
+    }
+}
+
+/// What answers a `check-sat`.
 fn check_response(
     alloc: Global,
     task: Task,
     session: &Session,
     stack: &mut AssertionStack,
-) -> Result<Vec<u8>, Memory>
-    requires { Suits task stack.old }
-    ensures value { IfOk result (λ text. IsCheckResponse task (run_state session.now stack.old) text.items) }
+    tree: &Tree,
+) -> Result<Checked, Unanswered>
+    requires { HoldsExactly stack.old.formulas (held_of stack.old) }
+    ensures value { IfOk result (λ checked. IsCheckResponse task (run_state session.now stack.old checked.why) checked.text.items) }
+    ensures refused { IfErr result (IsUnchecked task stack.old tree.now) }
     ensures same { stack.new ≡ stack.old }
 {
     match task {
-        Task::Matches => listing(alloc, session, stack.graph()),
-        Task::Solve => verdict(alloc, stack),
+        Task::Matches => {
+            let text = listing(alloc, session, stack.graph())?;
+            Ok(Checked { text, why: None })
+        }
+        Task::Solve { rounds } => search(alloc, rounds, stack, tree),
     }
 }
 
@@ -176,26 +176,45 @@ fn check_response(
 fn respond(
     alloc: Global,
     task: Task,
-    session: &Session,
-    stack: &mut AssertionStack,
+    situation: &mut Situation,
+    tree: &Tree,
     command: &Command,
     prints: bool,
-) -> Result<Vec<u8>, Memory>
-    requires { Suits task stack.old }
-    ensures value { IfOk result (λ text. (before : RunState) → before.session.prints_success ≡ prints → IsResponse task command.now before (run_state session.now stack.old) text.items) }
-    ensures same { stack.new ≡ stack.old }
+) -> Result<Vec<u8>, Unanswered>
+    requires { HoldsExactly situation.old.assertions.formulas (held_of situation.old.assertions) }
+    ensures value { IfOk result (λ text. Tells task command.now prints situation.old situation.new text.items) }
+    ensures refused { IfErr result (IsUntold task command.now situation.old.assertions tree.now) }
 {
     match command {
         Command::Unsupported => Ok(Vec::from_slice(alloc, unsupported())?),
-        Command::CheckSat => check_response(alloc, task, session, stack),
-        Command::GetInfo { info } => Ok(info_text(alloc, *info, session.levels())?),
-        Command::Reset => Ok(Vec::from_slice(alloc, success(prints))?),
+        Command::CheckSat => {
+            let checked = check_response(
+                alloc,
+                task,
+                &situation.session,
+                &mut situation.stack,
+                tree,
+            )?;
+            situation.why = checked.why;
+            Ok(checked.text)
+        }
+        Command::GetInfo { info } => {
+            let levels = situation.session.levels();
+            Ok(info_text(alloc, *info, levels, situation.why)?)
+        }
+        Command::Reset => {
+            situation.why = None;
+            Ok(Vec::from_slice(alloc, success(prints))?)
+        }
         Command::Silent
         | Command::Assert { .. }
         | Command::Push { .. }
         | Command::Pop { .. }
         | Command::ResetAssertions
-        | Command::Exit => Ok(Vec::from_slice(alloc, success(session.prints_success()))?),
+        | Command::Exit => {
+            let prints = situation.session.prints_success();
+            Ok(Vec::from_slice(alloc, success(prints))?)
+        }
     }
 }
 
@@ -227,23 +246,23 @@ pub(crate) fn answer_command(
     alloc: Global,
     task: Task,
     limits: &Limits,
-    session: &mut Session,
-    stack: &mut AssertionStack,
+    situation: &mut Situation,
     tree: &Tree,
 ) -> Result<Reply, Unanswered>
     requires limits { AreLawful limits.now }
-    requires suits { Suits task stack.old }
-    ensures ok { IfOk result (λ reply. IsReply task limits.now (run_state session.old stack.old) tree.now (run_state session.new stack.new) reply) }
-    ensures refused { IfErr result (IsUnanswered task (run_state session.old stack.old) tree.now) }
+    requires tables { AreTables situation.old.assertions }
+    requires exact { AreExact situation.old.assertions }
+    ensures ok { IfOk result (λ reply. IsReply task limits.now situation.old tree.now situation.new reply) }
+    ensures refused { IfErr result (IsUnanswered task situation.old tree.now) }
 {
     run_law();
-    let prints = session.prints_success();
-    match session.command(tree) {
+    let prints = situation.session.prints_success();
+    match situation.session.command(tree) {
         Err(stop) => Err(unread(alloc, &stop)),
-        Ok(command) => match perform(alloc, task, limits, stack, tree, &command) {
+        Ok(command) => match perform(alloc, limits, &mut situation.stack, tree, &command) {
             Err(unanswered) => Err(unanswered),
             Ok(()) => {
-                let text = respond(alloc, task, session, stack, &command, prints)?;
+                let text = respond(alloc, task, situation, tree, &command, prints)?;
                 Ok(Reply {
                     text,
                     exits: is_exit(&command),

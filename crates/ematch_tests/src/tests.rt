@@ -3,6 +3,7 @@ mod answers;
 mod errors;
 mod faults;
 mod fixture;
+mod foralls;
 mod library;
 mod random;
 mod solve;

@@ -1,11 +1,10 @@
--- Splits under way, and the values at them.
-use Rattle.std.proofs.Common.{◌≡◌, ℕ, false, List, [], ◌∷◌, ◌++◌, length, take, reverse, refl, sym, ap, ◌∙◌}
-use Rattle.std.proofs.Common.{inl, inr, append_assoc, append-nil, arith}
+-- Splits under way, and the values of each round.
+use Rattle.std.proofs.Common.{◌≡◌, ℕ, false, List, [], ◌∷◌, ◌++◌, ap, ◌∙◌, append_assoc, inl, inr}
 use Rattle.std.proofs.lemmas.Bool.{false_from_ne_true, iff_false}
-use Rattle.std.proofs.lemmas.List.{length-append, reverse-append, reverse-reverse, take-append-le, take_all}
 use Rattle.formula_table.specs.Formulas.{Formulas}
 use Rattle.formula_assert.specs.Assertions.{Assertions}
-use Rattle.formula_assert.specs.InLevel.{HoldsMoreOver}
+use Rattle.formula_assert.specs.InLevel.{KeepsLevels}
+use Rattle.match_store.specs.declared.instance.Instance.{Instance}
 use Rattle.search_watch.specs.Service.{HasClash}
 use Rattle.search_laws.specs.Branch.{Branch}
 use Rattle.search_laws.specs.Closing.{Conflict}
@@ -15,8 +14,8 @@ use Rattle.search_branch.specs.Right.{AreValuesOf}
 use Rattle.search_branch.specs.Levels.{IsLevelOver}
 use Rattle.search_branch.specs.Steps.{branch_of, HasNoConflict}
 use Rattle.search_check.specs.declared.aside.Aside.{Aside}
-use Rattle.search_check.specs.UnderWay.{Half, AreHalves}
-use Rattle.search_check.proofs.OverLemmas.{over_same, over_both}
+use Rattle.search_check.specs.UnderWay.{Place, Half, place_of, AreHalves}
+use Rattle.search_check.proofs.ListLemmas.{IsBehind, last_changed}
 
 -- a clash is a conflict
 clash_conflict : (formulas : Formulas) (branch : Branch) → HasClash branch.held.graph.standing →
@@ -36,68 +35,85 @@ pub calm_alike : (now : Assertions) (struck : List (ℕ × ℕ)) (one other : Br
 calm_alike now struck one other right calm alike =
     false_from_ne_true other.lost (λ lost. iff_false right.lost calm (alike.lost.0 lost))
 
--- more is held than at the start
-pub halves_over : (start now : Assertions) (halves : List Half) (asides : List Aside) (struck : List (ℕ × ℕ))
-    (values : BranchValues) → AreHalves start halves asides now struck values → HoldsMoreOver start now
-halves_over start now [] asides struck values are = are.1
-halves_over start now (half ∷ halves) asides struck values are =
-    over_both start half.before now (halves_over start half.before halves are.0 half.struck half.values are.3)
-    are.2.more_held
+-- what is over a level stays so, at the same place
+abbrev pub KeepsEachLevel : List BranchValues → List BranchValues → Type 0
+KeepsEachLevel values next = (front : List BranchValues) (before : BranchValues) →
+    IsBehind (IsLevelOver before) front values → IsBehind (IsLevelOver before) front next
 
--- more came, in the same levels
-pub halves_more : (start now next : Assertions) (halves : List Half) (asides : List Aside)
-    (struck more struck_next : List (ℕ × ℕ)) (values values_next : BranchValues) → HoldsMoreOver now next →
-    struck_next ≡ struck ++ more →
-    ((before : BranchValues) → IsLevelOver before values → IsLevelOver before values_next) →
-    AreHalves start halves asides now struck values → AreHalves start halves asides next struck_next values_next
-halves_more start now next [] asides struck more struck_next values values_next over is levels are =
-    (are.0, over_both start now next are.1 over)
-halves_more start now next (half ∷ halves) asides struck more struck_next values values_next over is levels are = (
-  are.0,
-  are.1,
-  record {
-    is_half = are.2.is_half;
-    mark = are.2.mark;
-    more_held = over_both half.before now next are.2.more_held over;
-    so_many = are.2.so_many;
-    later = are.2.later ++ more;
-    struck_are = is ∙ ap (λ (places : List (ℕ × ℕ)). places ++ more) are.2.struck_are
-        ∙ append_assoc half.struck are.2.later more;
-    level = levels half.values are.2.level;
-  },
-  are.3,
-)
+-- the values of the round under way change in the same levels
+pub keeps_in_round : (earlier : List BranchValues) (values next : BranchValues) →
+    ((before : BranchValues) → IsLevelOver before values → IsLevelOver before next) →
+    KeepsEachLevel (earlier ++ values ∷ []) (earlier ++ next ∷ [])
+keeps_in_round earlier values next levels front before over =
+    last_changed (IsLevelOver before) earlier front values next (levels before) over
 
--- other values came with the same levels
-pub halves_alike : (start now : Assertions) (halves : List Half) (asides : List Aside) (struck : List (ℕ × ℕ))
-    (values values_next : BranchValues) →
-    ((before : BranchValues) → IsLevelOver before values → IsLevelOver before values_next) →
-    AreHalves start halves asides now struck values → AreHalves start halves asides now struck values_next
-halves_alike start now halves asides struck values values_next levels are =
-    halves_more start now now halves asides struck [] struck values values_next (over_same now)
-    (sym (append-nil struck)) levels are
+-- values of a round more come behind them
+pub keeps_behind : (values : List BranchValues) (next : BranchValues) → KeepsEachLevel values (values ++ next ∷ [])
+keeps_behind values next front before over = record {
+  value = over.value;
+  later = over.later ++ next ∷ [];
+  all_are = ap (λ (all : List BranchValues). all ++ next ∷ []) over.all_are
+      ∙ append_assoc front (over.value ∷ over.later) (next ∷ []);
+  has = over.has;
+}
 
--- a list's length many of it and more are the list
-pub take_seam : {X : Type 0} (xs ys : List X) → take (length xs) (xs ++ ys) ≡ xs
-take_seam xs ys = take-append-le (length xs) xs ys (omega arith) ∙ take_all (length xs) xs (omega arith)
+-- what came on the way from one place to a later one
+pub record ComesTo (here next : Place) : Type 0 where
+  pub keeps : KeepsLevels here.now next.now
+  pub struck : List (ℕ × ℕ)
+  pub struck_are : next.struck ≡ here.struck ++ struck
+  pub done : List Instance
+  pub done_are : next.done ≡ here.done ++ done
+  pub spent : List ℕ
+  pub spent_are : next.spent ≡ here.spent ++ spent
+  pub levels : KeepsEachLevel here.values next.values
 
--- no list ends with an element and is empty
-pub not_none : {X : Type 0} (xs : List X) (x : X) → xs ++ x ∷ [] ≡ [] → ⊥
-not_none xs x e = omega (arith, length-append xs (x ∷ []), ap length e)
+-- a front of a front is one
+front_more : {X : Type 0} (front later more here next : List X) → here ≡ front ++ later → next ≡ here ++ more →
+    next ≡ front ++ (later ++ more)
+front_more front later more here next is also = also ∙ ap (λ xs. xs ++ more) is ∙ append_assoc front later more
 
--- a list without elements
-pub no_elements : {X : Type 0} (xs : List X) → length xs ≡ 0 → xs ≡ []
-no_elements [] none = refl
-no_elements (x ∷ xs) none = absurd (omega (arith, none))
+module _ (both : (first second third : Assertions) → KeepsLevels first second → KeepsLevels second third →
+    KeepsLevels first third) where
+  -- more is held than at the start
+  pub halves_over : (start : Assertions) (halves : List Half) (asides : List Aside) (here : Place) →
+      AreHalves start halves asides here → KeepsLevels start here.now
+  halves_over start [] asides here are = are.1
+  halves_over start (half ∷ halves) asides here are = both start half.before here.now
+      (halves_over start halves are.0 (place_of half) are.3) are.2.keeps
 
--- lists that are equal with an element at each end are equal without
-module _ {X : Type 0} (xs ys : List X) (x y : X) (same : xs ++ x ∷ [] ≡ ys ++ y ∷ []) where
-  backwards : x ∷ reverse xs ≡ y ∷ reverse ys
-  backwards = sym (reverse-append xs (x ∷ [])) ∙ ap reverse same ∙ reverse-append ys (y ∷ [])
-
-  pub same_last : x ≡ y
-  same_last = cc backwards
-
-  pub same_front : xs ≡ ys
-  same_front = let turned : reverse xs ≡ reverse ys = cc backwards in
-      sym (reverse-reverse xs) ∙ ap reverse turned ∙ reverse-reverse ys
+  -- the splits stay under way
+  pub halves_more : (start : Assertions) (halves : List Half) (asides : List Aside) (here next : Place) →
+      ComesTo here next → AreHalves start halves asides here → AreHalves start halves asides next
+  halves_more start [] asides here next comes are = (are.0, both start here.now next.now are.1 comes.keeps)
+  halves_more start (half ∷ halves) asides here next comes are =
+      let over : IsBehind (IsLevelOver half.values) half.earlier next.values = comes.levels half.earlier half.values (record {
+        value = are.2.values;
+        later = are.2.values_later;
+        all_are = are.2.values_are;
+        has = are.2.level;
+      }) in (
+        are.0,
+        are.1,
+        record {
+          is_half = are.2.is_half;
+          mark = are.2.mark;
+          keeps = both half.before here.now next.now are.2.keeps comes.keeps;
+          so_many_struck = are.2.so_many_struck;
+          so_many_done = are.2.so_many_done;
+          so_many_spent = are.2.so_many_spent;
+          struck_later = are.2.struck_later ++ comes.struck;
+          struck_are = front_more half.struck are.2.struck_later comes.struck here.struck next.struck
+              are.2.struck_are comes.struck_are;
+          done_later = are.2.done_later ++ comes.done;
+          done_are = front_more half.done are.2.done_later comes.done here.done next.done are.2.done_are comes.done_are;
+          spent_later = are.2.spent_later ++ comes.spent;
+          spent_are = front_more half.spent are.2.spent_later comes.spent here.spent next.spent are.2.spent_are
+              comes.spent_are;
+          values = over.value;
+          values_later = over.later;
+          values_are = over.all_are;
+          level = over.has;
+        },
+        are.3,
+      )

@@ -9,7 +9,7 @@ use Rattle.formula_assert.specs.Exactly.{HoldsExactly}
 use Rattle.formula_assert.specs.Stands.{IsTableOver}
 use Rattle.search_laws.specs.Laws.{IsInOrder, UnsatRefutes, SatSatisfies}
 use Rattle.search_check.specs.declared.outcome.Outcome.{Outcome}
-use Rattle.search_check.specs.declared.outcome.Outcome.TheVariants.{Unsat, Sat}
+use Rattle.search_check.specs.declared.outcome.Outcome.TheVariants.{Unsat, Sat, Unknown}
 use Rattle.search_check.specs.Verdicts.{IsVerdictOf, TellsOfAssignments}
 
 module _ (formulas : Formulas) (now : Held) (terms : IsTable (terms_of now.graph.standing))
@@ -18,17 +18,16 @@ module _ (formulas : Formulas) (now : Held) (terms : IsTable (terms_of now.graph
   in_order : HoldsExactly formulas now → IsInOrder formulas now
   in_order exactly = record { terms = terms; table = over.table; stand = over.terms; exactly = exactly }
 
-  pub told : (outcome : Outcome) → ((rounds : ℕ) → IsVerdictOf rounds formulas now outcome) →
+  pub told : (rounds : ℕ) (outcome : Outcome) → IsVerdictOf rounds formulas now outcome →
       HoldsExactly formulas now → TellsOfAssignments formulas now outcome
-  told Unsat verdict exactly = unsat_refutes 0 formulas now (in_order exactly) (verdict 0)
-  told (Sat kept) verdict exactly = λ predicates sorts.
-      let found = verdict 0 in
-      let way = sat_satisfies 0 formulas now found.0 kept.leaders predicates (in_order exactly) found.1 found.2
-      sorts in
+  told rounds Unsat verdict exactly = unsat_refutes rounds formulas now (in_order exactly) verdict
+  told rounds (Sat kept) verdict exactly = λ predicates sorts.
+      let way = sat_satisfies rounds formulas now verdict.0 kept.leaders predicates (in_order exactly) verdict.1
+      verdict.2.0 sorts in
       (way.assigns, λ n asserted. way.satisfies n (way.among n asserted))
+  told rounds (Unknown why kept) verdict exactly = tt
 
-  pub told_of : {E : Type 0} (result : Result Outcome E) →
-      IfOk result (λ outcome. (rounds : ℕ) → IsVerdictOf rounds formulas now outcome) →
-      IfOk result (λ outcome. HoldsExactly formulas now → TellsOfAssignments formulas now outcome)
-  told_of (Ok outcome) verdict = told outcome verdict
-  told_of (Err refused) verdict = tt
+  pub told_of : {E : Type 0} (rounds : ℕ) (result : Result Outcome E) → HoldsExactly formulas now →
+      IfOk result (IsVerdictOf rounds formulas now) → IfOk result (TellsOfAssignments formulas now)
+  told_of rounds (Ok outcome) exactly verdict = told rounds outcome verdict exactly
+  told_of rounds (Err refused) exactly verdict = tt

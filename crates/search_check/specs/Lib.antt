@@ -1,2 +1,4 @@
+pub mod Live
+pub mod Round
 pub mod Verdicts
 pub mod UnderWay

@@ -1,35 +1,66 @@
 -- A search with the splits whose first halves are under way.
-use Rattle.std.specs.Prelude.{◌≡◌, ◌≢◌, ℕ, false, List, [], ◌∷◌, ◌++◌, length, take, slice_get, Option, Some, None}
+use Rattle.std.specs.Prelude.{◌≡◌, ◌≢◌, ℕ, ◌≤◌, false, List, [], ◌∷◌, ◌++◌, length, take, slice_get, Option, Some}
+use Rattle.std.specs.Prelude.{None, All}
+use Rattle.match_store.specs.declared.instance.Instance.{Instance}
 use Rattle.formula_table.specs.declared.node.Node.{Node}
 use Rattle.formula_table.specs.declared.node.Node.TheVariants.{Or}
-use Rattle.formula_table.specs.Formulas.{Formulas}
 use Rattle.formula_value.specs.Holds.{HasNode}
 use Rattle.formula_assert.specs.Assertions.{Assertions, held_of}
-use Rattle.formula_assert.specs.InLevel.{HoldsMoreOver}
+use Rattle.formula_assert.specs.InLevel.{KeepsLevels}
 use Rattle.formula_assert.specs.Mark.{IsMark}
-use Rattle.search_laws.specs.Branch.{Branch, first_branch, with_struck}
-use Rattle.search_laws.specs.Path.{Path}
+use Rattle.search_laws.specs.Branch.{with_struck}
+use Rattle.search_laws.specs.Path.{Path, first_path, with_branch}
 use Rattle.search_laws.specs.Verdict.{Ending, unsat, Verdict}
 use Rattle.search_branch.specs.declared.branch_values.BranchValues.{BranchValues}
 use Rattle.search_branch.specs.Right.{AreValuesOf}
 use Rattle.search_branch.specs.Levels.{IsLevelOver}
 use Rattle.search_branch.specs.Steps.{branch_of}
+use Rattle.search_branch.specs.Struck.{IsPlaceOf}
 use Rattle.search_check.specs.declared.aside.Aside.{Aside}
 use Rattle.search_check.specs.declared.outcome.Outcome.{Outcome}
 use Rattle.search_check.specs.declared.search.Search.{Search}
+use Rattle.search_check.specs.Round.{path_at, LivesAreAsserted}
 use Rattle.search_check.specs.Verdicts.{IsVerdictOf}
 
--- a split: what stood and was struck at it, the values then, what the search keeps of it, and the node of its part
+-- what a search stands on: what is held, what is struck and done, how many instances each round entered, and the values
+-- of each round, those of the round under way last
+pub record Place : Type 0 where
+  pub now : Assertions
+  pub struck : List (ℕ × ℕ)
+  pub done : List Instance
+  pub spent : List ℕ
+  pub values : List BranchValues
+
+-- the path there
+abbrev pub path_in : Place → Path
+path_in place = path_at place.now place.struck place.done place.spent
+
+-- a split: where it was, with the values of earlier rounds and those of its round, what the search keeps of it, and the
+-- node of its part
 pub record Half : Type 0 where
   pub before : Assertions
   pub struck : List (ℕ × ℕ)
+  pub done : List Instance
+  pub spent : List ℕ
+  pub earlier : List BranchValues
   pub values : BranchValues
   pub aside : Aside
   pub node : Node
 
--- the branch of the second half
-abbrev pub second_branch : Half → Branch
-second_branch half = with_struck (branch_of half.before half.struck) half.aside.node half.aside.place half.node
+-- where the split was
+abbrev pub place_of : Half → Place
+place_of half = record {
+  now = half.before;
+  struck = half.struck;
+  done = half.done;
+  spent = half.spent;
+  values = half.earlier ++ half.values ∷ [];
+}
+
+-- the path of the second half
+abbrev pub second_path : Half → Path
+second_path half = with_branch (path_in (place_of half))
+    (with_struck (branch_of half.before half.struck) half.aside.node half.aside.place half.node)
 
 -- the part stands at the place of the disjunction, and the values are those of what stood, where there was no clash
 pub record IsHalf (half : Half) : Type 0 where
@@ -39,75 +70,111 @@ pub record IsHalf (half : Half) : Type 0 where
   pub at_place : slice_get parts half.aside.place ≡ Some half.aside.part
   pub right : AreValuesOf half.before half.struck half.values
   pub calm : half.values.lost ≡ false
+  pub places : All (IsPlaceOf half.before.formulas.nodes) half.struck
+  pub lives : LivesAreAsserted half.before.formulas (held_of half.before)
+  pub each_round : length half.earlier ≡ length half.spent
 
--- the first half is under way: more is held and struck now, what was kept of the split leads back to it, and a level of
--- the values was opened at it
-pub record IsHalfway (half : Half) (now : Assertions) (struck : List (ℕ × ℕ)) (values : BranchValues) : Type 0 where
+-- The first half is under way: more is held, struck, done and spent now, and what was kept of the split leads back to it.
+-- The values of the rounds before its own are as they were, and a level of those of its round was opened at it.
+pub record IsHalfway (half : Half) (here : Place) : Type 0 where
   pub is_half : IsHalf half
   pub mark : IsMark half.before half.aside.mark
-  pub more_held : HoldsMoreOver half.before now
-  pub so_many : length half.struck ≡ half.aside.struck
-  pub later : List (ℕ × ℕ)
-  pub struck_are : struck ≡ half.struck ++ later
+  pub keeps : KeepsLevels half.before here.now
+  pub so_many_struck : length half.struck ≡ half.aside.struck
+  pub so_many_done : length half.done ≡ half.aside.done
+  pub so_many_spent : length half.spent ≡ half.aside.spent
+  pub struck_later : List (ℕ × ℕ)
+  pub struck_are : here.struck ≡ half.struck ++ struck_later
+  pub done_later : List Instance
+  pub done_are : here.done ≡ half.done ++ done_later
+  pub spent_later : List ℕ
+  pub spent_are : here.spent ≡ half.spent ++ spent_later
+  pub values : BranchValues
+  pub values_later : List BranchValues
+  pub values_are : here.values ≡ half.earlier ++ values ∷ values_later
   pub level : IsLevelOver half.values values
 
 -- these splits are under way, the last of them first, and what was kept of them is these asides, the last of them last
-abbrev pub AreHalves : Assertions → List Half → List Aside → Assertions → List (ℕ × ℕ) → BranchValues → Type 0
-AreHalves start [] asides now struck values = (asides ≡ []) × HoldsMoreOver start now
-AreHalves start (half ∷ halves) asides now struck values = (earlier : List Aside) ×
-    (asides ≡ earlier ++ half.aside ∷ []) × IsHalfway half now struck values ×
-    AreHalves start halves earlier half.before half.struck half.values
-
--- the path on which the branch stands over these formulas, with nothing done and no round spent
-abbrev pub path_of : Formulas → Branch → Path
-path_of formulas branch = record { formulas = formulas; branch = branch; done = []; spent = [] }
+abbrev pub AreHalves : Assertions → List Half → List Aside → Place → Type 0
+AreHalves start [] asides here = (asides ≡ []) × KeepsLevels start here.now
+AreHalves start (half ∷ halves) asides here = (earlier : List Aside) × (asides ≡ earlier ++ half.aside ∷ []) ×
+    IsHalfway half here × AreHalves start halves earlier (place_of half)
 
 -- where the search at hand ends as the first, the search with these second halves ends as the second
-pub data Unwinds (rounds : ℕ) (formulas : Formulas) : List Half → Ending → Ending → Type 0 where
-  none : {ending : Ending} → Unwinds rounds formulas [] ending ending
+pub data Unwinds (rounds : ℕ) : List Half → Ending → Ending → Type 0 where
+  none : {ending : Ending} → Unwinds rounds [] ending ending
   kept : {half : Half} {halves : List Half} {ending last : Ending} → ending ≢ unsat →
-      Unwinds rounds formulas halves ending last → Unwinds rounds formulas (half ∷ halves) ending last
-  next : {half : Half} {halves : List Half} {ending last : Ending} →
-      Verdict rounds (path_of formulas (second_branch half)) ending → Unwinds rounds formulas halves ending last →
-      Unwinds rounds formulas (half ∷ halves) unsat last
+      Unwinds rounds halves ending last → Unwinds rounds (half ∷ halves) ending last
+  next : {half : Half} {halves : List Half} {ending last : Ending} → Verdict rounds (second_path half) ending →
+      Unwinds rounds halves ending last → Unwinds rounds (half ∷ halves) unsat last
 
--- however the search at hand ends, the whole search from the first branch ends with these second halves
-abbrev pub IsOnTheWay : Formulas → Branch → List Half → Branch → Type 0
-IsOnTheWay formulas first halves branch = (rounds : ℕ) (ending last : Ending) →
-    Verdict rounds (path_of formulas branch) ending → Unwinds rounds formulas halves ending last →
-    Verdict rounds (path_of formulas first) last
+-- however the search at hand ends, the whole search from the first path ends with these second halves
+abbrev pub IsOnTheWay : ℕ → Path → List Half → Path → Type 0
+IsOnTheWay rounds first halves path = (ending last : Ending) → Verdict rounds path ending →
+    Unwinds rounds halves ending last → Verdict rounds first last
 
--- the search of what stood at the start, without foralls, is under way, and the values are those of what stands
-pub record IsUnderWay (start now : Assertions) (asides : List Aside) (struck : List (ℕ × ℕ)) (values : BranchValues) :
-    Type 0 where
-  pub ground : start.formulas.foralls ≡ []
+-- The search of what stood at the start, with so many rounds, is under way; of the values the last are those of what
+-- stands, and there are some of each round.
+pub record IsUnderWay (rounds : ℕ) (start : Assertions) (asides : List Aside) (here : Place)
+    (earlier : List BranchValues) (values : BranchValues) : Type 0 where
   pub halves : List Half
-  pub are : AreHalves start halves asides now struck values
-  pub way : IsOnTheWay start.formulas (first_branch (held_of start)) halves (branch_of now struck)
-  pub right : AreValuesOf now struck values
+  pub are : AreHalves start halves asides here
+  pub way : IsOnTheWay rounds (first_path start.formulas (held_of start)) halves (path_in here)
+  pub right : AreValuesOf here.now here.struck values
+  pub places : All (IsPlaceOf here.now.formulas.nodes) here.struck
+  pub lives : LivesAreAsserted here.now.formulas (held_of here.now)
+  pub each_round : length earlier ≡ length here.spent
+  pub not_past : length here.spent ≤ rounds
+
+-- where the search stands by what it keeps
+abbrev pub place_in : Assertions → Search → Place
+place_in now search = record {
+  now = now;
+  struck = search.struck.items;
+  done = search.done;
+  spent = search.spent.items;
+  values = search.earlier.items ++ search.values ∷ [];
+}
 
 -- so it is by what the search keeps
-abbrev pub IsSearching : Assertions → Assertions → Search → Type 0
-IsSearching start now search = IsUnderWay start now search.asides.items search.struck.items search.values
+abbrev pub IsSearching : ℕ → Assertions → Assertions → Search → Type 0
+IsSearching rounds start now search =
+    IsUnderWay rounds start search.asides.items (place_in now search) search.earlier.items search.values
 
 -- the search went back to a split, which was kept as this aside: its second half is to come, and then those of the
 -- others
-pub record IsAgainAt (start now : Assertions) (asides : List Aside) (struck : List (ℕ × ℕ)) (values : BranchValues)
-    (aside : Aside) : Type 0 where
-  pub ground : start.formulas.foralls ≡ []
+pub record IsAgainAt (rounds : ℕ) (start : Assertions) (asides : List Aside) (here : Place)
+    (earlier : List BranchValues) (values : BranchValues) (aside : Aside) : Type 0 where
   pub node : Node
-  pub is_half : IsHalf (record { before = now; struck = struck; values = values; aside = aside; node = node })
+  pub is_half : IsHalf (record {
+    before = here.now;
+    struck = here.struck;
+    done = here.done;
+    spent = here.spent;
+    earlier = earlier;
+    values = values;
+    aside = aside;
+    node = node;
+  })
   pub halves : List Half
-  pub are : AreHalves start halves asides now struck values
-  pub way : IsOnTheWay start.formulas (first_branch (held_of start)) halves
-      (with_struck (branch_of now struck) aside.node aside.place node)
+  pub are : AreHalves start halves asides here
+  pub way : IsOnTheWay rounds (first_path start.formulas (held_of start)) halves
+      (with_branch (path_in here) (with_struck (branch_of here.now here.struck) aside.node aside.place node))
+  pub not_past : length here.spent ≤ rounds
 
 -- so it did by what the search keeps, where the places that were struck since then are left out
-abbrev pub IsBackAt : Assertions → Assertions → Search → Aside → Type 0
-IsBackAt start now search aside = IsAgainAt start now search.asides.items (take aside.struck search.struck.items)
-    search.values aside
+abbrev pub IsBackAt : ℕ → Assertions → Assertions → Search → Aside → Type 0
+IsBackAt rounds start now search aside = IsAgainAt rounds start search.asides.items
+    (record {
+      now = now;
+      struck = take aside.struck search.struck.items;
+      done = search.done;
+      spent = search.spent.items;
+      values = search.earlier.items ++ search.values ∷ [];
+    })
+    search.earlier.items search.values aside
 
 -- the search goes on, or this is its outcome
-abbrev pub GoesOn : Assertions → Assertions → Search → Option Outcome → Type 0
-GoesOn start now search None = IsSearching start now search
-GoesOn start now search (Some outcome) = (rounds : ℕ) → IsVerdictOf rounds start.formulas (held_of start) outcome
+abbrev pub GoesOn : ℕ → Assertions → Assertions → Search → Option Outcome → Type 0
+GoesOn rounds start now search None = IsSearching rounds start now search
+GoesOn rounds start now search (Some outcome) = IsVerdictOf rounds start.formulas (held_of start) outcome

@@ -14,4 +14,8 @@ pub(crate) struct Aside {
     pub mark: Mark,
     /// How many places were struck.
     pub struck: usize,
+    /// How many instances were done.
+    pub done: usize,
+    /// How many rounds were spent.
+    pub spent: usize,
 }

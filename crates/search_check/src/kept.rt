@@ -31,11 +31,16 @@ fn leaders_of(alloc: Global, graph: &MatchingGraph) -> Result<Numbers, Memory>
     Ok(numbers)
 }
 
-/// The leaders and the asserted nodes of what the stack holds.
-pub(crate) fn kept_of(alloc: Global, stack: &AssertionStack) -> Result<Kept, Memory>
-    ensures { IfOk result (IsKept (held_of stack.now)) }
+/// The leaders and the asserted nodes of what the stack holds, and how many instances each round entered.
+pub(crate) fn kept_of(alloc: Global, stack: &AssertionStack, spent: &[u32]) -> Result<Kept, Memory>
+    ensures { IfOk result (IsKept (held_of stack.now) spent.now) }
 {
     let leaders = leaders_of(alloc, stack.graph())?;
     let asserted = Numbers::from_slice(alloc, stack.asserted())?;
-    Ok(Kept { leaders, asserted })
+    let rounds = Numbers::from_slice(alloc, spent)?;
+    Ok(Kept {
+        leaders,
+        asserted,
+        rounds,
+    })
 }

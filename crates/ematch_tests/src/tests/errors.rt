@@ -43,7 +43,7 @@ pub(super) const FAULTS: &[(&str, &str)] = &[
 
 #[test]
 fn a_fault_of_the_bytes_has_its_line(rt: HostRuntime) -> Result<(), Fail> {
-    check_answers(&rt, rt.alloc(), &narrow(), "matches", "", FAULTS, 1)
+    check_answers(&rt, rt.alloc(), &narrow(), &["matches"], "", FAULTS, 1)
 }
 
 /// Scripts of one command that is refused, and the line of the error.
@@ -132,7 +132,7 @@ fn refusals_have_their_lines(rt: HostRuntime) -> Result<(), Fail> {
         &rt,
         rt.alloc(),
         &Limits::standard(),
-        "matches",
+        &["matches"],
         "",
         REFUSALS,
         1,
@@ -181,7 +181,7 @@ fn terms_are_refused_where_they_are_wrong(rt: HostRuntime) -> Result<(), Fail> {
         &rt,
         rt.alloc(),
         &Limits::standard(),
-        "matches",
+        &["matches"],
         TERMS_DECLARED,
         TERMS,
         1,
@@ -257,7 +257,7 @@ fn the_first_too_many_is_refused(rt: HostRuntime) -> Result<(), Fail> {
         &rt,
         alloc,
         &Limits::standard(),
-        "matches",
+        &["matches"],
         TERMS_DECLARED,
         &answers,
         1,
@@ -279,13 +279,13 @@ fn a_formula_has_room_for_as_many_terms_as_may_stand(rt: HostRuntime) -> Result<
         ..Limits::standard()
     };
     let full = [(PAIR, "(error \"line 2 column 1: too many terms\")\n")];
-    check_answers(&rt, alloc, &few, "matches", PAIR_DECLARED, &full, 1)?;
+    check_answers(&rt, alloc, &few, &["matches"], PAIR_DECLARED, &full, 1)?;
     let enough = Limits { terms: 5, ..few };
     check_answers(
         &rt,
         alloc,
         &enough,
-        "matches",
+        &["matches"],
         PAIR_DECLARED,
         &[(PAIR, "")],
         0,
@@ -295,5 +295,5 @@ fn a_formula_has_room_for_as_many_terms_as_may_stand(rt: HostRuntime) -> Result<
         "(assert true)",
         "(error \"line 1 column 9: too many formula nodes\")\n",
     )];
-    check_answers(&rt, alloc, &no_node, "matches", "", &refused, 1)
+    check_answers(&rt, alloc, &no_node, &["matches"], "", &refused, 1)
 }

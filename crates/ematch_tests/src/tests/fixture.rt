@@ -75,11 +75,11 @@ pub(super) fn run(
     })
 }
 
-/// Whether the word's task answers a script so, and ends with this status.
+/// Whether the words' task answers a script so, and ends with this status.
 fn is_answered(
     alloc: Global,
     limits: &Limits,
-    word: &str,
+    words: &[&str],
     script: &[&str],
     piece: usize,
     answer: &str,
@@ -87,16 +87,16 @@ fn is_answered(
 ) -> Result<bool, AllocError>
     requires { AreLawful limits.now }
 {
-    let left = run(alloc, limits, &[word], script, piece, NO_FAULTS)?;
+    let left = run(alloc, limits, words, script, piece, NO_FAULTS)?;
     Ok(left.code == code && left.out.as_slice() == answer.as_bytes())
 }
 
-/// Under the word each script behind these declarations is answered so, with this status, whole and byte by byte.
+/// Under the words each script behind these declarations is answered so, with this status, whole and byte by byte.
 pub(super) fn check_answers(
     rt: &impl Abort,
     alloc: Global,
     limits: &Limits,
-    word: &str,
+    words: &[&str],
     declared: &str,
     answers: &[(&str, &str)],
     code: u8,
@@ -106,11 +106,11 @@ pub(super) fn check_answers(
     for (script, answer) in answers {
         let parts = [declared, *script];
         assert!(rt;
-            is_answered(alloc, limits, word, &parts, 4096, answer, code)?,
+            is_answered(alloc, limits, words, &parts, 4096, answer, code)?,
             "{script}"
         );
         assert!(rt;
-            is_answered(alloc, limits, word, &parts, 1, answer, code)?,
+            is_answered(alloc, limits, words, &parts, 1, answer, code)?,
             "{script}, byte by byte"
         );
     }

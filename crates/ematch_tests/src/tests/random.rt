@@ -182,7 +182,7 @@ fn random_ground_scripts_are_sat_where_a_world_makes_them_true(
             &rt,
             alloc,
             &Limits::standard(),
-            "solve",
+            &["solve"],
             DECLARED,
             &answers,
             0,

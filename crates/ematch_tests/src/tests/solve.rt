@@ -73,7 +73,7 @@ fn ground_scripts_have_their_verdicts(rt: HostRuntime) -> Result<(), Fail> {
         &rt,
         rt.alloc(),
         &Limits::standard(),
-        "solve",
+        &["solve"],
         DECLARED,
         VERDICTS,
         0,
@@ -87,16 +87,6 @@ const ERRORS: &[(&str, &str)] = &[
         "sat\n(error \"line 3 column 1: the command is not closed\")\n",
     ),
     (
-        "(check-sat) (assert (and q (forall ((x U)) (! (p x) :pattern ((p x))))))(check-sat)",
-        "sat\n(error \"line 2 column 13: not built yet\")\n",
-    ),
-    // also in a let that nothing uses
-    (
-        "(assert (let ((h (forall ((x U)) (! (p x) :pattern ((p x)))))) (p a)))",
-        "(error \"line 2 column 1: not built yet\")\n",
-    ),
-    // and after the command was read as any other
-    (
         "(assert (forall ((x U)) (! (p y) :pattern ((p x)))))",
         "(error \"line 2 column 31: unknown name y\")\n",
     ),
@@ -108,7 +98,7 @@ fn errors_of_ground_scripts_have_their_lines(rt: HostRuntime) -> Result<(), Fail
         &rt,
         rt.alloc(),
         &Limits::standard(),
-        "solve",
+        &["solve"],
         DECLARED,
         ERRORS,
         1,

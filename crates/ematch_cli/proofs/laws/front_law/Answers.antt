@@ -5,7 +5,7 @@ use Rattle.ematch_cli.proofs.OneAnswer.{front_once, right_opening}
 use Rattle.ematch_cli.proofs.laws.front_law.Goals as goal
 
 pub returns-clause-output : goal.returns-clause-output
-returns-clause-output c task limits bytes front answer begun is = front_once task limits c.run_law.ensures true (script_of limits bytes) (opening limits) front answer (right_opening c.run_law.ensures task limits) begun is
+returns-clause-output c task limits bytes front answer begun is = front_once task limits c.run_law.ensures true (script_of limits bytes) (opening limits) front answer (right_opening c.run_law.ensures limits) begun is
 
 pub returns-clause-so_far : goal.returns-clause-so_far
-returns-clause-so_far c task limits bytes front answer begun is = front_once task limits c.run_law.ensures false (script_of limits bytes) (opening limits) front answer (right_opening c.run_law.ensures task limits) begun is
+returns-clause-so_far c task limits bytes front answer begun is = front_once task limits c.run_law.ensures false (script_of limits bytes) (opening limits) front answer (right_opening c.run_law.ensures limits) begun is

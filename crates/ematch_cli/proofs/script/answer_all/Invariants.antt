@@ -1,11 +1,10 @@
 use Rattle.std.proofs.Common.{◌≡◌, ◌≤◌, ◌-◌, None}
-use Rattle.ematch_cli.specs.RunState.{run_state}
 use Rattle.ematch_cli.proofs.Reached.{Reached, ahead}
 use Rattle.ematch_cli.proofs.script.answer_all.Given as goal
 
 abbrev pub invariant-loop-tree : goal.invariant-loop-tree
 invariant-loop-tree g l = record {
-  reached : Reached l.task l.limits (g.I.Source.left l.fn.input) (g.I.Source.left l.input) (g.O.Sink.written l.fn.out) (g.O.Sink.written l.out) (run_state l.session l.stack) (ahead l.reader);
+  reached : Reached l.task l.limits (g.I.Source.left l.fn.input) (g.I.Source.left l.input) (g.O.Sink.written l.fn.out) (g.O.Sink.written l.out) l.situation (ahead l.reader);
   no_fault : l.reader.fault ≡ None;
   limits : l.reader.limits ≡ l.limits;
   input_later : g.I.Source.fault_count l.fn.input ≤ g.I.Source.fault_count l.input;

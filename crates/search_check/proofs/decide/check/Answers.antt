@@ -11,5 +11,5 @@ returns-clause-same c = c.back_to.ensures c.args.stack.now c.mark-mark.ensures c
 pub returns-clause-tells : goal.returns-clause-tells
 returns-clause-tells c =
     told_of c.args.stack.now.formulas (held_of c.args.stack.now) c.depth-rules.ensures.rules.lawful.whole.table
-    c.depth-rules.ensures.rules.formulas c.unsat_law.ensures c.sat_law.ensures c.search-outcome.result
-    c.search-outcome.ensures.verdict
+    c.depth-rules.ensures.rules.formulas c.unsat_law.ensures c.sat_law.ensures c.args.rounds c.search-outcome.result
+    c.requires.exact c.search-outcome.ensures.verdict

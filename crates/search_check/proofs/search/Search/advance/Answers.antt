@@ -1,69 +1,72 @@
-use Rattle.std.proofs.Common.{◌≡◌, ℕ, List, length, subst}
-use Rattle.formula_assert.specs.Assertions.{Assertions}
-use Rattle.search_branch.specs.declared.branch_values.BranchValues.{BranchValues}
-use Rattle.search_branch.specs.declared.step.Step.{Step}
 use Rattle.search_branch.specs.declared.step.Step.TheVariants.{Lost, Assert, Split, WayOut}
-use Rattle.search_branch.specs.Right.{AreValuesOf}
-use Rattle.search_branch.specs.Steps.{branch_of, IsStep, IsWithin}
-use Rattle.search_check.proofs.OverLemmas.{over_both}
-use Rattle.search_check.proofs.UnderWayLemmas.{over_start}
+use Rattle.search_check.specs.UnderWay.{place_in}
+use Rattle.search_check.proofs.StartLemmas.{keeps_on, step_there, within_there}
 use Rattle.search_check.proofs.search.Search.advance.Goals as goal
-
--- what was found, of this step
-module _ (now : Assertions) (struck : List (ℕ × ℕ)) (values : BranchValues) (found step : Step)
-    (same : found ≡ step) (right : AreValuesOf now struck values) where
-  step_there : ((stood : Assertions) (places : List (ℕ × ℕ)) → AreValuesOf stood places values →
-      IsStep stood.formulas (branch_of stood places) found) → IsStep now.formulas (branch_of now struck) step
-  step_there is = subst (IsStep now.formulas (branch_of now struck)) same (is now struck right)
-
-  within_there : ((stood : Assertions) (places : List (ℕ × ℕ)) → AreValuesOf stood places values →
-      IsWithin (length stood.formulas.nodes) found) → IsWithin (length now.formulas.nodes) step
-  within_there within = subst (IsWithin (length now.formulas.nodes)) same (within now struck right)
-
-pub take_up-requires-clause-under_way : goal.take_up-requires-clause-under_way
-take_up-requires-clause-under_way c = c.requires
 
 pub take_up-requires-clause-step : goal.take_up-requires-clause-step
 take_up-requires-clause-step c = step_there c.args.stack.now c.args.self.now.struck.items
     c.args.self.now.values c.next_step.result Lost c.in-Lost.is c.requires.1.right c.next_step.ensures.step
 
-pub assert-requires : goal.assert-requires
-assert-requires c = record {
-  stands = within_there c.args.stack.now c.args.self.now.struck.items c.args.self.now.values
-      c.next_step.result (Assert c.in-Assert.part) c.in-Assert.is c.requires.1.right c.next_step.ensures.within;
-  values = c.requires.1.right;
-  step = step_there c.args.stack.now c.args.self.now.struck.items c.args.self.now.values
-      c.next_step.result (Assert c.in-Assert.part) c.in-Assert.is c.requires.1.right c.next_step.ensures.step;
-}
+pub returns-in_err-take_up-in-Lost-clause-levels :
+    goal.returns-in_err-take_up-in-Lost-clause-levels
+returns-in_err-take_up-in-Lost-clause-levels c start searching =
+    c.take_up.ensures.levels c.args.rounds start searching
 
-pub returns-in-Assert-clause-more : goal.returns-in-Assert-clause-more
-returns-in-Assert-clause-more c start searching = over_both start c.args.stack.now c.assert.new.stack
-    (over_start start c.args.stack.now c.args.self.now.asides.items c.args.self.now.struck.items
-    c.args.self.now.values searching)
-    c.assert.ensures.more
+pub returns-in_ok-take_up-in-Lost-clause-levels : goal.returns-in_ok-take_up-in-Lost-clause-levels
+returns-in_ok-take_up-in-Lost-clause-levels c start searching =
+    c.take_up.ensures.levels c.args.rounds start searching
 
-pub split-requires : goal.split-requires
-split-requires c =
-    let step = Split c.in-Split.node c.in-Split.place c.in-Split.part in
-    record {
-      stands = within_there c.args.stack.now c.args.self.now.struck.items c.args.self.now.values
-          c.next_step.result step c.in-Split.is c.requires.1.right c.next_step.ensures.within;
-      values = c.requires.1.right;
-      step = step_there c.args.stack.now c.args.self.now.struck.items c.args.self.now.values
-          c.next_step.result step c.in-Split.is c.requires.1.right c.next_step.ensures.step;
-    }
+pub assert-requires-clause-stands : goal.assert-requires-clause-stands
+assert-requires-clause-stands c = within_there c.args.stack.now c.args.self.now.struck.items
+    c.args.self.now.values c.next_step.result (Assert c.in-Assert.part) c.in-Assert.is c.requires.1.right
+    c.next_step.ensures.within
 
-pub returns-in-Split-clause-more : goal.returns-in-Split-clause-more
-returns-in-Split-clause-more c start searching = over_both start c.args.stack.now c.split.new.stack
-    (over_start start c.args.stack.now c.args.self.now.asides.items c.args.self.now.struck.items
-    c.args.self.now.values searching)
-    c.split.ensures.more
+pub assert-requires-clause-step : goal.assert-requires-clause-step
+assert-requires-clause-step c = step_there c.args.stack.now c.args.self.now.struck.items
+    c.args.self.now.values c.next_step.result (Assert c.in-Assert.part) c.in-Assert.is c.requires.1.right
+    c.next_step.ensures.step
 
-pub way_out-requires : goal.way_out-requires
-way_out-requires c = step_there c.args.stack.now c.args.self.now.struck.items
+pub returns-in_err-assert-in-Assert-clause-levels :
+    goal.returns-in_err-assert-in-Assert-clause-levels
+returns-in_err-assert-in-Assert-clause-levels c start searching = keeps_on c.over_law.ensures.both c.args.rounds
+    start c.args.self.now.asides.items (place_in c.args.stack.now c.args.self.now) c.args.self.now.earlier.items
+    c.args.self.now.values c.assert.new.stack searching
+    (c.over_law.ensures.over c.args.stack.now c.assert.new.stack c.assert.ensures.more)
+
+pub returns-in_ok-assert-in-Assert-clause-levels :
+    goal.returns-in_ok-assert-in-Assert-clause-levels
+returns-in_ok-assert-in-Assert-clause-levels c start searching = keeps_on c.over_law.ensures.both c.args.rounds
+    start c.args.self.now.asides.items (place_in c.args.stack.now c.args.self.now) c.args.self.now.earlier.items
+    c.args.self.now.values c.assert.new.stack searching
+    (c.over_law.ensures.over c.args.stack.now c.assert.new.stack c.assert.ensures.more)
+
+pub split-requires-clause-stands : goal.split-requires-clause-stands
+split-requires-clause-stands c = within_there c.args.stack.now c.args.self.now.struck.items
+    c.args.self.now.values c.next_step.result (Split c.in-Split.node c.in-Split.place c.in-Split.part) c.in-Split.is
+    c.requires.1.right c.next_step.ensures.within
+
+pub split-requires-clause-step : goal.split-requires-clause-step
+split-requires-clause-step c = step_there c.args.stack.now c.args.self.now.struck.items
+    c.args.self.now.values c.next_step.result (Split c.in-Split.node c.in-Split.place c.in-Split.part) c.in-Split.is
+    c.requires.1.right c.next_step.ensures.step
+
+pub returns-in_err-split-in-Split-clause-levels : goal.returns-in_err-split-in-Split-clause-levels
+returns-in_err-split-in-Split-clause-levels c start searching = keeps_on c.over_law.ensures.both c.args.rounds
+    start c.args.self.now.asides.items (place_in c.args.stack.now c.args.self.now) c.args.self.now.earlier.items
+    c.args.self.now.values c.split.new.stack searching
+    (c.over_law.ensures.over c.args.stack.now c.split.new.stack c.split.ensures.more)
+
+pub returns-in_ok-split-in-Split-clause-levels : goal.returns-in_ok-split-in-Split-clause-levels
+returns-in_ok-split-in-Split-clause-levels c start searching = keeps_on c.over_law.ensures.both c.args.rounds
+    start c.args.self.now.asides.items (place_in c.args.stack.now c.args.self.now) c.args.self.now.earlier.items
+    c.args.self.now.values c.split.new.stack searching
+    (c.over_law.ensures.over c.args.stack.now c.split.new.stack c.split.ensures.more)
+
+pub nothing_open-requires-clause-step : goal.nothing_open-requires-clause-step
+nothing_open-requires-clause-step c = step_there c.args.stack.now c.args.self.now.struck.items
     c.args.self.now.values c.next_step.result WayOut c.in-WayOut.is c.requires.1.right c.next_step.ensures.step
 
-pub returns-in-WayOut-clause-more : goal.returns-in-WayOut-clause-more
-returns-in-WayOut-clause-more c start searching =
-    over_start start c.args.stack.now c.args.self.now.asides.items c.args.self.now.struck.items
-    c.args.self.now.values searching
+pub returns-in-WayOut-clause-levels : goal.returns-in-WayOut-clause-levels
+returns-in-WayOut-clause-levels c start searching = keeps_on c.over_law.ensures.both c.args.rounds
+    start c.args.self.now.asides.items (place_in c.args.stack.now c.args.self.now) c.args.self.now.earlier.items
+    c.args.self.now.values c.nothing_open.new.stack searching c.nothing_open.ensures.levels
