@@ -1,5 +1,5 @@
 -- What a command comes to.
-use Rattle.std.proofs.Common.{◌≡◌, ◌↔◌, IsTrue, inl, inr, Bool, List, ℕ, Ok, Err, Option, refl, sym, subst, ◌∙◌, ap}
+use Rattle.std.proofs.Common.{◌≡◌, inl, inr, List, ℕ, Ok, refl, sym, subst, ◌∙◌, ap}
 use Rattle.em_outside.specs.declared.limits.Limits.{Limits}
 use Rattle.smt_text.specs.Word.{Word}
 use Rattle.smt_names.specs.Names.{State}
@@ -10,14 +10,11 @@ use Rattle.smt_commands.specs.Commands.{elaborate}
 use Rattle.smt_commands.specs.declared.command.Command.{Command}
 use Rattle.smt_commands.specs.declared.command.Command.TheVariants as command
 use Rattle.formula_assert.specs.Assertions.{Assertions}
-use Rattle.search_check.specs.declared.why.Why.{Why}
 use Rattle.em_words.specs.declared.task.Task.{Task}
 use Rattle.em_words.specs.declared.task.Task.TheVariants.{Matches, Solve}
-use Rattle.ematch_cli.specs.Reply.{IsReply, IsUnanswered, IsUndone, IsUntold, IsUnread, Tells}
-use Rattle.ematch_cli.specs.Response.{IsResponse, Remembers}
+use Rattle.ematch_cli.specs.Reply.{IsUnanswered, IsUndone, IsUntold, IsUnread, Tells}
 use Rattle.ematch_cli.specs.Run.{Does, Replies, answered}
 use Rattle.ematch_cli.specs.RunState.{RunState, run_state}
-use Rattle.ematch_cli.specs.declared.reply.Reply.{Reply}
 use Rattle.ematch_cli.specs.declared.unanswered.Unanswered.{Unanswered}
 use Rattle.ematch_cli.specs.declared.unanswered.Unanswered.TheVariants.{Refused, Memory}
 

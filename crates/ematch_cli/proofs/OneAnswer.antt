@@ -6,8 +6,8 @@ use Rattle.smt_text.specs.Word.{Word}
 use Rattle.smt_text.specs.Script.{Script, End, Fault, Command}
 use Rattle.formula_draft.specs.Draft.{Formula, IsFormula}
 use Rattle.formula_table.specs.declared.enter_fault.EnterFault.{EnterFault}
-use Rattle.formula_assert.specs.Assertions.{Assertions, held_of, no_assertions, pushed, popped}
-use Rattle.formula_assert.specs.AssertFormula.{AssertsFormula, StopsAssert}
+use Rattle.formula_assert.specs.Assertions.{Assertions, held_of, pushed, popped}
+use Rattle.formula_assert.specs.AssertFormula.{StopsAssert}
 use Rattle.formula_assert.specs.Exactly.{AreExact}
 use Rattle.formula_assert.specs.Tables.{AreTables}
 use Rattle.smt_names.specs.Names.{State}

@@ -8,7 +8,7 @@ use Rattle.search_laws.specs.Verdict.{Ending, unsat, sat, settled, rounds_spent,
 use Rattle.em_words.specs.declared.task.Task.{Task}
 use Rattle.em_words.specs.declared.task.Task.TheVariants.{Solve}
 use Rattle.ematch_cli.specs.Listing.{line}
-use Rattle.ematch_cli.specs.Response.{HasLine, IsCheckResponse}
+use Rattle.ematch_cli.specs.Response.{HasLine}
 use Rattle.ematch_cli.specs.RunLaws.{RunLaws}
 use Rattle.ematch_cli.specs.RunState.{RunState}
 use Rattle.ematch_cli.specs.Refuted.{ComesAbout, at_first, by_command, UnsatIsRight}

@@ -24,8 +24,8 @@ pub data ComesAbout (task : Task) (limits : Limits) : RunState → Type 0 where
 abbrev pub IsRefutable : Assertions → Type 0
 IsRefutable now = AreRefutedByInstances now.formulas (terms_of now.graph.standing) now.asserted
 
--- `unsat` is answered only where finitely many instances of foralls refute all that is asserted, however many rounds the
--- search may have
+-- `unsat` is answered only where finitely many instances of foralls refute all that is asserted, however many rounds
+-- the search may have
 abbrev pub UnsatIsRight : Type 0
 UnsatIsRight = (rounds : ℕ) (limits : Limits) (now : RunState) → ComesAbout (Solve rounds) limits now →
     IsCheckResponse (Solve rounds) now (line (codes "unsat")) → IsRefutable now.assertions

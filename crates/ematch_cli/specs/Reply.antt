@@ -80,8 +80,8 @@ abbrev pub IsUntold : Task → Command → Assertions → List Word → Unanswer
 IsUntold task CheckSat now words unanswered = IsUnchecked task now words unanswered
 IsUntold task command now words unanswered = unanswered ≡ Memory
 
--- A command that was done is answered by the text, where `success` was printed before it or not: of what is known only why
--- the last check was answered by `unknown` may change.
+-- A command that was done is answered by the text, where `success` was printed before it or not: of what is known only
+-- why the last check was answered by `unknown` may change.
 pub record Tells (task : Task) (command : Command) (prints : Bool) (before after : RunState) (text : List ℕ)
     : Type 0 where
   pub session_is : after.session ≡ before.session

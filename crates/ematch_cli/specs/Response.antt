@@ -69,8 +69,8 @@ IsCheckResponse Matches after text = IsListing (names_of after.session) after.as
     × (after.why ≡ None)
 IsCheckResponse (Solve rounds) after text = IsSearched rounds after.assertions text after.why
 
--- of a check it is said with its answer why it was answered by `unknown`; `reset` forgets it, and each other command
--- keeps what was known
+-- of a check its answer says why it was answered by `unknown`; `reset` forgets it, and each other command keeps what
+-- was known
 abbrev pub Remembers : Command → Option Why → Option Why → Type 0
 Remembers command.CheckSat before after = Unit {0}
 Remembers command.Reset before after = after ≡ None
@@ -87,7 +87,8 @@ Remembers command.Exit before after = after ≡ before
 abbrev pub IsResponse : Task → Command → RunState → RunState → List ℕ → Type 0
 IsResponse task command.Unsupported before after text = text ≡ unsupported
 IsResponse task command.CheckSat before after text = IsCheckResponse task after text
-IsResponse task (command.GetInfo info) before after text = text ≡ info_text info (length after.session.levels) after.why
+IsResponse task (command.GetInfo info) before after text =
+    text ≡ info_text info (length after.session.levels) after.why
 IsResponse task command.Reset before after text = text ≡ success before.session.prints_success
 IsResponse task command.Silent before after text = text ≡ success after.session.prints_success
 IsResponse task (command.Assert formula) before after text = text ≡ success after.session.prints_success

@@ -69,8 +69,8 @@ pub record PassesLimit (task : Task) (before : RunState) (words : List Word) (fa
   pub elaborated : elaborate before.session words ≡ Ok (answered command.CheckSat session)
   pub verdict : Verdict rounds (first_path before.assertions.formulas (held_of before.assertions)) (refused fault)
 
--- The command is refused with this line: as it is read, or because there is no room for what it asserts, or because there
--- is none for an instance of the search that it asks for.
+-- The command is refused with this line: as it is read, or because there is no room for what it asserts, or because
+-- there is none for an instance in the search that it asks for.
 abbrev pub IsRefused : Task → RunState → List Word → List ℕ → Type 0
 IsRefused task before words text =
     ((fault : SyntaxFault) × (elaborate before.session words ≡ Err fault) × (text ≡ refusal_line fault))

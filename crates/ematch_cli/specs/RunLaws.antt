@@ -39,8 +39,8 @@ pub record AssertsInOneWay : Type 0 where
       AreTables before → (fault ≢ Memory) → (also ≢ Memory) → StopsAssert formula before one fault →
       StopsAssert formula before other also → (fault ≡ also) × (one ≡ other)
 
--- sessions begin right and stay so, what is asserted stays made of tables and exact, a formula is asserted in one way, and
--- a search ends in one way
+-- sessions begin right and stay so, what is asserted stays made of tables and exact, a formula is asserted in one way,
+-- and a search ends in one way
 pub record RunLaws : Type 0 where
   pub starts : (limits : Limits) → IsSound (at_start limits)
   pub keeps : KeepsSound

@@ -13,8 +13,8 @@ use Rattle.ematch_cli.specs.Refuted.{ComesAbout}
 use Rattle.ematch_cli.specs.Response.{IsCheckResponse}
 use Rattle.ematch_cli.specs.RunState.{RunState}
 
--- The search of what is asserted, with so many rounds, ends in this branch. The leaders of its terms make an assignment,
--- and that satisfies all that is asserted, whichever symbols are the predicates, if the sorts are kept to.
+-- The search of what is asserted, with so many rounds, ends in this branch. The leaders of its terms make an
+-- assignment, and that satisfies all that is asserted, whichever symbols are the predicates, if the sorts are kept to.
 pub record IsSatisfied (rounds : ℕ) (now : Assertions) : Type 0 where
   pub last : Path
   pub verdict : Verdict rounds (first_path now.formulas (held_of now)) (sat last)

@@ -1,5 +1,5 @@
 -- Instances that are entered one after another.
-use Rattle.std.proofs.Common.{◌≡◌, ◌≢◌, ℕ, List, [], ◌∷◌, ◌++◌, take, slice_get, Some, refl, sym, ap, subst, ◌∙◌}
+use Rattle.std.proofs.Common.{◌≡◌, ◌≢◌, ℕ, List, [], ◌∷◌, ◌++◌, take, slice_get, Some, refl}
 use Rattle.graph_meaning.specs.Standing.{terms_of}
 use Rattle.formula_table.specs.declared.table_forall.TableForall.{TableForall}
 use Rattle.match_graph.specs.GraphTerms.{with_terms}

@@ -1,6 +1,6 @@
 -- Live triggers stay those of asserted foralls where instances are entered.
 use Rattle.std.proofs.Common.{◌≡◌, ◌⊎◌, inl, inr, ⊎_elim, ℕ, zero, suc, ◌<◌, true, false, List, [], ◌∷◌, ◌++◌, length}
-use Rattle.std.proofs.Common.{map, slice_get, Some, All, Contains, refl, sym, ap, subst, ◌∙◌, append-nil, append_assoc}
+use Rattle.std.proofs.Common.{map, slice_get, Some, All, Contains, sym, ap, subst, ◌∙◌, append-nil, append_assoc}
 use Rattle.std.proofs.Common.{arith}
 use Rattle.std.proofs.lemmas.List.{map-append, length-append}
 use Rattle.std.proofs.lemmas.List.Elements.{All-nil, All-cons, All-head, All-tail, All-contains, All-weaker}
@@ -19,7 +19,7 @@ use Rattle.formula_table.specs.declared.node.Node.{Node}
 use Rattle.formula_table.specs.declared.node.Node.TheVariants.{Equal, Atom, And, Or, Forall}
 use Rattle.formula_table.specs.declared.table_forall.TableForall.{TableForall}
 use Rattle.formula_table.specs.Formulas.{Formulas, GrowsTable}
-use Rattle.formula_assert.specs.Held.{Held, held, triggers_at, operations_of, conjuncts_of, holding}
+use Rattle.formula_assert.specs.Held.{Held, held, triggers_at, operations_of, holding}
 use Rattle.formula_assert.specs.Asserts.{Asserts, AssertsAll, stands, holds, none, more}
 use Rattle.formula_assert.specs.Exactly.{operations_in, IsOfAsserted}
 use Rattle.formula_assert.specs.InLevel.{IsInLevel}

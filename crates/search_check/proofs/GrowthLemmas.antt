@@ -1,6 +1,6 @@
 -- What could be entered still can where the levels are kept, and places of disjunctions stay ones.
 use Rattle.std.proofs.Common.{◌≡◌, ℕ, ◌<◌, ◌≤◌, List, [], ◌∷◌, ◌++◌, length, slice_get, Some, All, refl, sym, ap}
-use Rattle.std.proofs.Common.{subst, ◌∙◌, append-nil, append_assoc, arith}
+use Rattle.std.proofs.Common.{◌∙◌, append-nil, append_assoc, arith}
 use Rattle.std.specs.List.{filter_map}
 use Rattle.std.proofs.lemmas.List.{length-append}
 use Rattle.std.proofs.lemmas.List.Elements.{All-head, All-tail, All-weaker, filter_map-append}
@@ -14,7 +14,6 @@ use Rattle.match_store.specs.declared.instance.Instance.{Instance}
 use Rattle.formula_table.specs.declared.node.Node.{Node}
 use Rattle.formula_table.specs.declared.node.Node.TheVariants.{Or}
 use Rattle.formula_table.specs.declared.table_forall.TableForall.{TableForall}
-use Rattle.formula_table.specs.Formulas.{Formulas, GrowsTable}
 use Rattle.formula_assert.specs.Assertions.{Assertions}
 use Rattle.formula_assert.specs.InLevel.{IsInLevel, KeepsLevels}
 use Rattle.search_branch.specs.Struck.{IsPlaceOf}
@@ -37,8 +36,7 @@ ops_stand : (graph : GraphState) (ops : List Op) → All IsInLevel ops →
 ops_stand graph [] each = ([], sym (append-nil graph.standing))
 ops_stand graph (op ∷ ops) each =
     let rest = ops_stand (state_after graph op) ops (All-tail IsInLevel op ops each) in
-    let last : Done = record { serial = graph.done; op = op } in
-    (
+    let last : Done = record { serial = graph.done; op = op } in (
       last ∷ rest.0,
       rest.1
           ∙ ap (λ (list : List Done). list ++ rest.0)

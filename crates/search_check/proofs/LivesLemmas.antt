@@ -1,5 +1,5 @@
 -- Live triggers come from asserted foralls, as more is asserted.
-use Rattle.std.proofs.Common.{◌≡◌, ℕ, ◌<◌, List, [], ◌∷◌, ◌++◌, length, Contains}
+use Rattle.std.proofs.Common.{◌≡◌, ℕ, ◌<◌, List, [], ◌∷◌, length, Contains}
 use Rattle.std.proofs.Common.{true, false, refl, subst, ⊎_elim}
 use Rattle.std.proofs.lemmas.List.Elements.{All-nil, All-cons, All-append, Contains-append_left, Contains-push}
 use Rattle.graph_trigger.specs.declared.trigger.Trigger.{Trigger}

@@ -1,8 +1,8 @@
 -- A new instance can be entered.
-use Rattle.std.proofs.Common.{◌≡◌, ℕ, ◌<◌, true, false, List, [], ◌∷◌, length, map, slice_get, Option, Some, None}
-use Rattle.std.proofs.Common.{All, Contains, refl, sym, ap, subst, ◌∙◌, ⊎_elim, arith}
+use Rattle.std.proofs.Common.{◌≡◌, ℕ, ◌<◌, true, false, List, [], ◌∷◌, length, slice_get, Option, Some, None}
+use Rattle.std.proofs.Common.{All, Contains, refl, sym, ap, subst, ⊎_elim}
 use Rattle.std.specs.Option.{option_map_or}
-use Rattle.std.proofs.lemmas.List.Elements.{All-contains, All-weaker}
+use Rattle.std.proofs.lemmas.List.Elements.{All-weaker}
 use Rattle.std.proofs.lemmas.Option.{none-some, same_Some, slice_get_within}
 use Rattle.graph_terms.specs.declared.term_row.TermRow.{TermRow}
 use Rattle.graph_terms.specs.Terms.{term_row}
@@ -24,9 +24,9 @@ use Rattle.formula_table.specs.Instance.{HasVariables}
 use Rattle.formula_assert.specs.Held.{triggers_at, operations_of}
 use Rattle.formula_assert.specs.Assertions.{Assertions, held_of}
 use Rattle.formula_assert.specs.AssertInstance.{TermsStand}
-use Rattle.formula_assert.specs.Exactly.{operations_in, IsOfAsserted}
+use Rattle.formula_assert.specs.Exactly.{operations_in}
 use Rattle.search_check.specs.Round.{CanEnter, LivesAreAsserted}
-use Rattle.search_check.proofs.ElementLemmas.{in_none, in_head, in_later, in_cases, in_map, from_map, from_filter_map}
+use Rattle.search_check.proofs.ElementLemmas.{in_none, in_cases, in_map, from_map, from_filter_map}
 use Rattle.search_check.proofs.ElementLemmas.{at_place, all_of}
 
 -- terms that are derived equal stand
@@ -121,8 +121,7 @@ module _ (now : Assertions) (lawful : IsLawful now.graph.standing) (table : IsFo
       let node = of_forall now.formulas of.node trigger of.of_node in
       let found = at_number now.formulas.foralls node.0 trigger node.2 in
       let place = at_place found.0.triggers trigger found.2 in
-      let is = (table.foralls node.0 found.0 found.1).triggers place.0 trigger place.1 in
-      (
+      let is = (table.foralls node.0 found.0 found.1).triggers place.0 trigger place.1 in (
         found.0,
         subst (λ (n : ℕ). slice_get now.formulas.foralls n ≡ Some found.0) (sym is.forall_is) found.1,
         sym is.variables_are,

@@ -1,5 +1,5 @@
 -- A search where no disjunction is open and some forall is live.
-use Rattle.std.proofs.Common.{◌≡◌, ◌≢◌, ℕ, ◌+◌, ◌<◌, ◌≤◌, List, [], ◌∷◌, ◌++◌, length, Option, Some, All, refl, sym, ap}
+use Rattle.std.proofs.Common.{◌≡◌, ◌≢◌, ℕ, ◌+◌, ◌<◌, ◌≤◌, List, [], ◌∷◌, ◌++◌, length, Option, refl, sym, ap}
 use Rattle.std.proofs.Common.{subst, ◌∙◌, append-nil, append_assoc, arith}
 use Rattle.std.proofs.lemmas.List.{length-append}
 use Rattle.match_store.specs.declared.instance.Instance.{Instance}
@@ -10,18 +10,17 @@ use Rattle.search_laws.specs.Branch.{live_in}
 use Rattle.search_laws.specs.Path.{Path, first_path}
 use Rattle.search_laws.specs.Rounds.{AreNewIn, EntersAll, Overflows}
 use Rattle.search_laws.specs.Rounds as entering
-use Rattle.search_laws.specs.Verdict.{settled, rounds_spent, refused, Verdict}
+use Rattle.search_laws.specs.Verdict.{refused, Verdict}
 use Rattle.search_branch.specs.declared.branch_values.BranchValues.{BranchValues}
 use Rattle.search_branch.specs.declared.step.Step.TheVariants.{WayOut}
 use Rattle.search_branch.specs.Right.{AreValuesOf}
 use Rattle.search_branch.specs.Steps.{branch_of, IsStep}
 use Rattle.search_check.specs.declared.aside.Aside.{Aside}
 use Rattle.search_check.specs.declared.outcome.Outcome.{Outcome}
-use Rattle.search_check.specs.declared.outcome.Outcome.TheVariants.{Unknown}
 use Rattle.search_check.specs.declared.search.Search.{Search}
 use Rattle.search_check.specs.declared.why.Why.TheVariants.{Settled, RoundsSpent}
 use Rattle.search_check.specs.Round.{path_at}
-use Rattle.search_check.specs.UnderWay.{Half, IsOnTheWay, IsUnderWay, GoesOn}
+use Rattle.search_check.specs.UnderWay.{IsOnTheWay, IsUnderWay, GoesOn}
 use Rattle.search_check.specs.Verdicts.{IsOpenWith}
 use Rattle.search_check.proofs.EnteredLives.{lives_all}
 use Rattle.search_check.proofs.GrowthLemmas.{places_kept}

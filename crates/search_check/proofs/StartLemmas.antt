@@ -1,7 +1,7 @@
 -- What stood at the start, and where a search goes from a step to the next.
-use Rattle.std.proofs.Common.{◌≡◌, ℕ, List, [], ◌∷◌, length, subst}
+use Rattle.std.proofs.Common.{◌≡◌, ℕ, List, length, subst}
 use Rattle.formula_assert.specs.Assertions.{Assertions}
-use Rattle.formula_assert.specs.InLevel.{HoldsMoreOver, KeepsLevels}
+use Rattle.formula_assert.specs.InLevel.{KeepsLevels}
 use Rattle.search_branch.specs.declared.branch_values.BranchValues.{BranchValues}
 use Rattle.search_branch.specs.declared.step.Step.{Step}
 use Rattle.search_branch.specs.Right.{AreValuesOf}

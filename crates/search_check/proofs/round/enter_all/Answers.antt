@@ -1,4 +1,4 @@
-use Rattle.std.proofs.Common.{◌≡◌, ◌+◌, ◌++◌, ◌∷◌, [], List, take, get_or, slice_get, Some, All, refl, sym, ap, subst, ◌∙◌}
+use Rattle.std.proofs.Common.{◌≡◌, ◌+◌, ◌++◌, ◌∷◌, [], List, take, Some, sym, ap, subst, ◌∙◌}
 use Rattle.std.proofs.lemmas.Grind.{take_at_read}
 use Rattle.std.proofs.lemmas.List.{take_all}
 use Rattle.std.proofs.lemmas.Option.{slice_get-get_or}
@@ -37,8 +37,7 @@ loop-instance-preserved c =
     let instance = c.instance-item.result in
     let grown : take (index + 1) instances ≡ take index instances ++ instance ∷ [] =
     (take_at_read instances index instance c.loop-instance-test.true).1
-    ∙ ap (λ (x : Instance). take index instances ++ x ∷ []) (sym c.instance-item.is) in
-    (
+    ∙ ap (λ (x : Instance). take index instances ++ x ∷ []) (sym c.instance-item.is) in (
       λ struck spent. subst (λ (list : List Instance). EntersAll list (path_at c.args.stack.now struck c.args.done.now
           spent) (path_at c.enter.new.stack struck c.enter.new.done spent)) (sym grown)
           (enters_next (take index instances) instance (path_at c.args.stack.now struck c.args.done.now spent)

@@ -1,7 +1,6 @@
-use Rattle.std.proofs.Common.{◌≡◌, ℕ, List, [], length, true, false, sym, ap, subst, ◌∙◌, true≢false, arith}
+use Rattle.std.proofs.Common.{◌≡◌, [], length, sym, ap, subst, ◌∙◌, true≢false, arith}
 use Rattle.std.proofs.lemmas.Bool.{eqb-true, eq-eqb}
 use Rattle.graph_meaning.specs.State.{GraphState}
-use Rattle.match_store.specs.declared.instance.Instance.{Instance}
 use Rattle.match_store.specs.New.{AreNew}
 use Rattle.search_check.proofs.ListLemmas.{no_elements}
 use Rattle.search_check.proofs.NewLemmas.{all_can_enter}
