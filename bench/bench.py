@@ -9,7 +9,7 @@ that it took by the clock, the most memory that it held, how many matches it lis
 kind it gave, and how many times longer it took than the run before: about 2 where the time grows with n, about 4 where it
 grows with the square of n. Where `z3` or `cvc5` are installed (`apt-get install z3 cvc5`), they are given
 the same script, and their seconds stand last, with how many times the faster one's the program took; they instantiate the
-foralls and list nothing, and where a verdict of theirs is another, the line says so. The script judges nothing else.
+foralls and list nothing, and where a verdict of theirs is another, the line says so and does not count that peer. The script judges nothing else.
 """
 
 import argparse
@@ -382,9 +382,10 @@ def measure(program, others, kind, task, make, n, seconds):
         for name, command in others:
             other = run(command, script, seconds)
             cells.append(f"{name} {other[0]:.3f} s" if other[4] == 0 else f"{name} {other[4]}")
-            if task == "solve" and None not in (verdicts, other[3]) and verdicts != other[3]:
+            differs = task == "solve" and None not in (verdicts, other[3]) and verdicts != other[3]
+            if differs:
                 cells.append(f"OTHER VERDICTS than {name}")
-            if other[4] == 0 and (fastest is None or other[0] < fastest):
+            if other[4] == 0 and not differs and (fastest is None or other[0] < fastest):
                 fastest = other[0]
         if fastest is not None:
             cells.append(f"{took / fastest:.2f} of the faster peer")

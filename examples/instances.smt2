@@ -1,0 +1,6 @@
+(declare-sort U 0) (declare-fun f (U) U) (declare-fun g (U) U) (declare-const a U) (declare-const b U)
+(assert (forall ((x U)) (! (= (f (g x)) x) :pattern ((g x)))))
+(assert (= (g a) (g b)))
+(check-sat)
+(assert (not (= a b)))
+(check-sat)
