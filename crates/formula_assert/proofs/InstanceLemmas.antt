@@ -17,7 +17,7 @@ use Rattle.formula_assert.specs.declared.level.Level.{Level}
 use Rattle.formula_assert.specs.Held.{held}
 use Rattle.formula_assert.specs.Assertions.{Assertions, held_of}
 use Rattle.formula_assert.specs.Asserts.{Asserts}
-use Rattle.formula_assert.specs.AssertInstance.{TermsStand, AssertsInstance, StopsAssertInstance}
+use Rattle.formula_assert.specs.AssertInstance.{TermsStand, EntersBody, AssertsInstance, StopsAssertInstance}
 use Rattle.formula_assert.specs.InLevel.{HoldsMoreOver, KeepsLevels}
 use Rattle.formula_assert.specs.StackInside.{IsStackOf, assertions_with}
 use Rattle.formula_assert.proofs.Growth.{holds_same}
@@ -67,35 +67,43 @@ module _ (graph entered : GraphState) (table grown : Formulas) (asserted : List 
   instance_keeps = asserted_keeps enters.quantified.body tuple body_is graph entered below table grown graph.limit root
       enters.enters stack.terms_stand entered asserted asserted levels (holds_same (held entered asserted)) stack
 
-  -- and more was held then
-  module _ (after : Assertions) (over : HoldsMoreOver between after) where
-    pub instance_after : KeepsLevels now after
-    instance_after = subst (λ (a : Assertions). KeepsLevels a after) view
-        (both_levels (assertions_with graph table asserted levels) between after instance_keeps
-        (over_levels between after over))
+  -- as more is held after it was entered
+  pub instance_levels : KeepsLevels now between
+  instance_levels = subst (λ (a : Assertions). KeepsLevels a between) view instance_keeps
 
-    instance_here : Asserts grown root (held entered asserted) (held_of after) →
-        AssertsInstance forall tuple (assertions_with graph table asserted levels) after
-    instance_here asserts = record {
-      quantified = enters.quantified;
-      is_forall = enters.is_forall;
-      asserts_body = record {
-        entered = entered;
-        root = root;
-        enters = subst (λ (formulas : Formulas). Enters (λ more. entered ≡ with_terms graph more)
-            enters.quantified.body tuple (terms_of graph.standing) graph.limit table formulas root)
-            (sym over.formulas_are) enters.enters;
-        asserts = subst (λ (formulas : Formulas). Asserts formulas root (held entered asserted) (held_of after))
-            (sym over.formulas_are) asserts;
-        saved_is = over.saved_are ∙ instance_keeps.saved_are;
-      };
-    }
+  entered_here : EntersBody forall tuple (assertions_with graph table asserted levels) between root
+  entered_here = record {
+    quantified = enters.quantified;
+    is_forall = enters.is_forall;
+    enters = enters.enters;
+    asserted_is = refl;
+    saved_is = instance_keeps.saved_are;
+  }
 
-    -- as its root was asserted
-    pub instance_asserted : Asserts grown root (held entered asserted) (held_of after) →
-        AssertsInstance forall tuple now after
-    instance_asserted asserts = subst (λ (a : Assertions). AssertsInstance forall tuple a after) view
-        (instance_here asserts)
+  -- and its body was entered
+  pub instance_entered : EntersBody forall tuple now between root
+  instance_entered = subst (λ (a : Assertions). EntersBody forall tuple a between root) view entered_here
+
+-- an instance that was entered is asserted where its root is
+pub instance_from : (forall root : ℕ) (tuple : List ℕ) (before entered after : Assertions) →
+    EntersBody forall tuple before entered root → HoldsMoreOver entered after →
+    Asserts entered.formulas root (held_of entered) (held_of after) → AssertsInstance forall tuple before after
+instance_from forall root tuple before entered after enters over asserts = record {
+  quantified = enters.quantified;
+  is_forall = enters.is_forall;
+  asserts_body = record {
+    entered = entered.graph;
+    root = root;
+    enters = subst (λ (formulas : Formulas). Enters (λ more. entered.graph ≡ with_terms before.graph more)
+        enters.quantified.body tuple (terms_of before.graph.standing) before.graph.limit before.formulas formulas root)
+        (sym over.formulas_are) enters.enters;
+    asserts = subst (λ (formulas : Formulas).
+        Asserts formulas root (held entered.graph before.asserted) (held_of after)) (sym over.formulas_are)
+        (subst (λ (nodes : List ℕ). Asserts entered.formulas root (held entered.graph nodes) (held_of after))
+        enters.asserted_is asserts);
+    saved_is = over.saved_are ∙ enters.saved_is;
+  };
+}
 
 -- no rows were entered
 no_rows : (formula : Formula) (tuple : List ℕ) (rows : List TermRow) (limit : ℕ) →

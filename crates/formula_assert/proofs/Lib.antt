@@ -14,3 +14,4 @@ pub mod EnteredLemmas
 pub mod ExactLemmas
 pub mod ExactLaws
 pub mod NoForallsLaws
+pub mod StandLemmas

@@ -2,7 +2,7 @@
 ghost use Rattle.std.specs.Prelude.{◌≡◌, ◌<◌, ◌≤◌, ◌++◌, ◌∷◌, [], ℕ, List, length, slice_get, Some, Contains, ◌↔◌, IsTrue, IfOk, IfErr, OnOk, OnErr};
 ghost use Rattle.formula_assert.specs.Assertions.{Assertions, held_of, no_assertions, pushed, popped};
 ghost use Rattle.formula_assert.specs.AssertFormula.{AssertsFormula, StopsAssert};
-ghost use Rattle.formula_assert.specs.AssertInstance.{TermsStand, AssertsInstance, StopsAssertInstance};
+ghost use Rattle.formula_assert.specs.AssertInstance.{TermsStand, EntersBody, AssertsInstance, StopsAssertInstance};
 ghost use Rattle.formula_table.specs.Instance.{HasVariables};
 ghost use Rattle.formula_table.specs.declared.node.Node.{Node as SpecNode};
 ghost use Rattle.graph_meaning.specs.State.{replay};
@@ -17,6 +17,7 @@ ghost use Rattle.formula_assert.specs.News.{ListsMore};
 use crate::assert_nodes::{assert_node, refute_node};
 use crate::asserted_nodes::AssertedNodes;
 use crate::assertion_graph::AssertionGraph;
+use crate::laws::{instance_law, over_law};
 use crate::level::Level;
 use crate::mark::Mark;
 use crate::take_back::take_back_to;
@@ -130,6 +131,26 @@ impl AssertionStack {
         }
     }
 
+    /// Enters the body of a forall over a tuple of terms, one for each of its variables, and asserts nothing. Gives the
+    /// number of the root.
+    ///
+    /// `TermsFull` comes exactly where the next term is new and as many stand as may, and `NodesFull` where all terms stand,
+    /// the next node is new and as many stand as may. After a refusal, `Memory` too, the formulas and what is asserted are as
+    /// before, and of the terms the first that were to come may stand. Whatever is answered, the levels are as before, and
+    /// what came goes with the level that is open.
+    pub fn enter_instance(&mut self, forall: u32, tuple: &[u32]) -> Result<u32, EnterFault>
+        requires variables { HasVariables self.old.formulas forall (length tuple.now) }
+        requires tuple { TermsStand self.old tuple.now }
+        ensures ok { IfOk result (EntersBody forall tuple.now self.old self.new) }
+        ensures root { IfOk result (λ root. root < length self.new.formulas.nodes) }
+        ensures fault { IfErr result (StopsAssertInstance forall tuple.now self.old self.new) }
+        ensures levels { KeepsLevels self.old self.new }
+    {
+        let _mark = self.mark();
+        let root = self.formulas.instance(&mut self.graph, forall, tuple)?;
+        Ok(root)
+    }
+
     /// Enters the body of a forall over a tuple of terms, one for each of its variables, and then asserts the root.
     ///
     /// `TermsFull` comes exactly where the next term is new and as many stand as may, and `NodesFull` where all terms stand,
@@ -143,8 +164,10 @@ impl AssertionStack {
         ensures fault { IfErr result (StopsAssertInstance forall tuple.now self.old self.new) }
         ensures levels { KeepsLevels self.old self.new }
     {
+        over_law();
+        instance_law();
         let mark = self.mark();
-        let root = self.formulas.instance(&mut self.graph, forall, tuple)?;
+        let root = self.enter_instance(forall, tuple)?;
         let mut unions = Vec::new(self.alloc);
         match self.assert_entered(root, &mut unions) {
             Ok(()) => Ok(()),

@@ -1,5 +1,6 @@
 //! Laws of the definitions, each on a function that does nothing.
-ghost use Rattle.std.specs.Prelude.{◌≡◌, ◌≢◌, [], ℕ, ◌<◌, List, length};
+ghost use Rattle.std.specs.Prelude.{◌≡◌, ◌≢◌, [], ◌++◌, ℕ, ◌<◌, List, length};
+ghost use Rattle.graph_meaning.specs.declared.done.Done.{Done};
 ghost use Rattle.formula_draft.specs.Draft.{Formula, IsFormula};
 ghost use Rattle.formula_table.specs.declared.enter_fault.EnterFault.{EnterFault as Fault};
 ghost use Rattle.formula_table.specs.declared.enter_fault.EnterFault.TheVariants.{Memory};
@@ -7,9 +8,9 @@ ghost use Rattle.formula_table.specs.Formulas.{Formulas};
 ghost use Rattle.formula_table.specs.Instance.{HasVariables};
 ghost use Rattle.formula_assert.specs.Held.{Held};
 ghost use Rattle.formula_assert.specs.Asserts.{Asserts};
-ghost use Rattle.formula_assert.specs.Assertions.{Assertions, no_assertions, pushed, popped};
+ghost use Rattle.formula_assert.specs.Assertions.{Assertions, held_of, no_assertions, pushed, popped};
 ghost use Rattle.formula_assert.specs.AssertFormula.{AssertsFormula, StopsAssert};
-ghost use Rattle.formula_assert.specs.AssertInstance.{TermsStand, AssertsInstance, StopsAssertInstance};
+ghost use Rattle.formula_assert.specs.AssertInstance.{TermsStand, EntersBody, AssertsInstance, StopsAssertInstance};
 ghost use Rattle.formula_assert.specs.Tables.{AreTables};
 ghost use Rattle.formula_assert.specs.Exactly.{AreExact};
 ghost use Rattle.formula_assert.specs.NoForalls.{HasNoForalls};
@@ -22,11 +23,17 @@ pub fn asserts_law()
 {}
 
 /// The levels are kept where nothing comes, where more is held over the same formulas, and where they are kept and then kept
-/// again.
+/// again; and what stood is the beginning of what stands then.
 pub fn over_law()
     ensures same { (now : Assertions) → KeepsLevels now now }
     ensures over { (before after : Assertions) → HoldsMoreOver before after → KeepsLevels before after }
     ensures both { (first second third : Assertions) → KeepsLevels first second → KeepsLevels second third → KeepsLevels first third }
+    ensures stands { (before after : Assertions) → KeepsLevels before after → (more : List Done) × (after.graph.standing ≡ before.graph.standing ++ more) }
+{}
+
+/// An instance is asserted where it was entered and then its root was asserted.
+pub fn instance_law()
+    ensures { (forall root : ℕ) (tuple : List ℕ) (before entered after : Assertions) → EntersBody forall tuple before entered root → HoldsMoreOver entered after → Asserts entered.formulas root (held_of entered) (held_of after) → AssertsInstance forall tuple before after }
 {}
 
 /// What came in a level goes with it, and a level that ends gives back what stood when it was opened.

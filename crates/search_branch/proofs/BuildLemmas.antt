@@ -1,5 +1,5 @@
 -- The nodes and the ends of a table, one node after the other.
-use Rattle.std.proofs.Common.{zero, suc, ◌≡◌, inl, inr, ℕ, ◌+◌, ◌<◌, false, List, [], ◌∷◌, ◌++◌, length, map, take, Contains, sym, ap, subst, ◌∙◌, arith}
+use Rattle.std.proofs.Common.{zero, suc, ◌≡◌, inl, inr, ℕ, ◌+◌, ◌<◌, ◌≤◌, false, List, [], ◌∷◌, ◌++◌, length, map, take, Contains, sym, ap, subst, ◌∙◌, arith}
 use Rattle.std.proofs.lemmas.Bool.{cases_eq}
 use Rattle.std.proofs.lemmas.Option.{slice_get_within, get_or_from_slice_get, same_Some}
 use Rattle.std.proofs.lemmas.List.{map_more, append_assoc, append-nil, length-map, length-take-le}
@@ -11,18 +11,22 @@ use Rattle.search_board.specs.declared.kind.Kind.{Kind}
 use Rattle.search_values.specs.Given.{Given}
 use Rattle.search_values.specs.Changes.{EntersNode}
 use Rattle.search_branch.specs.Given.{kind_in, parts_in, ends_in, ends_of}
-use Rattle.search_branch.specs.Built.{AreFresh}
+use Rattle.search_branch.specs.Grown.{ComesBehind}
 
 -- one node more
-pub one_fresh : (nodes : List Node) (i : ℕ) (node : Node) (old new : Given) → HasNode nodes i node →
-    EntersNode (kind_in node) (parts_in node) old new → AreFresh (take i nodes) old →
-    AreFresh (take (i + 1) nodes) new
-one_fresh nodes i node old new has enters fresh = record {
-  kinds = enters.kinds ∙ ap (λ (ks : List Kind). ks ++ kind_in node ∷ []) fresh.kinds ∙ sym (longer kind_in);
-  parts = enters.parts_are ∙ ap (λ (ps : List (List ℕ)). ps ++ parts_in node ∷ []) fresh.parts ∙ sym (longer parts_in);
-  leaf = λ n stands. leaf n stands;
-  asserted = λ n. enters.asserted n ∙ fresh.asserted n;
-  struck = λ n place stands. struck n place stands;
+pub one_behind : (nodes : List Node) (first i : ℕ) (node : Node) (start old new : Given) → first ≤ i →
+    HasNode nodes i node → EntersNode (kind_in node) (parts_in node) old new →
+    ComesBehind (take i nodes) first start old → ComesBehind (take (i + 1) nodes) first start new
+one_behind nodes first i node start old new from has enters behind = record {
+  kinds = enters.kinds ∙ ap (λ (ks : List Kind). ks ++ kind_in node ∷ []) behind.kinds ∙ sym (longer kind_in);
+  parts = enters.parts_are ∙ ap (λ (ps : List (List ℕ)). ps ++ parts_in node ∷ []) behind.parts ∙
+      sym (longer parts_in);
+  leaf = λ n less. enters.leaf n (omega (arith, less, from, many)) ∙ behind.leaf n less;
+  asserted = λ n less. enters.asserted n ∙ behind.asserted n less;
+  struck = λ n place less. enters.struck n place (omega (arith, less, from, many)) ∙ behind.struck n place less;
+  later_leaf = λ n after stands. leaf n after stands;
+  later_asserted = λ n after stands. asserted n after stands;
+  later_struck = λ n place after stands. struck n place after stands;
 }
   where
     within : i < length nodes
@@ -33,7 +37,7 @@ one_fresh nodes i node old new has enters fresh = record {
         ap (λ (m : Node). map f (take i nodes) ++ f m ∷ []) (get_or_from_slice_get nodes i node node has)
 
     many : length old.kinds ≡ i
-    many = ap length fresh.kinds ∙ length-map (take i nodes) kind_in ∙ length-take-le i nodes (omega (arith, within))
+    many = ap length behind.kinds ∙ length-map (take i nodes) kind_in ∙ length-take-le i nodes (omega (arith, within))
 
     count : length (take i nodes) ≡ i
     count = length-take-le i nodes (omega (arith, within))
@@ -41,18 +45,24 @@ one_fresh nodes i node old new has enters fresh = record {
     count_more : length (take (i + 1) nodes) ≡ i + 1
     count_more = length-take-le (i + 1) nodes (omega (arith, within))
 
-    leaf : (n : ℕ) → n < length (take (i + 1) nodes) → new.leaf n ≡ Unset
-    leaf n stands = elim (cases_eq n (length old.kinds)) [
+    leaf : (n : ℕ) → first ≤ n → n < length (take (i + 1) nodes) → new.leaf n ≡ Unset
+    leaf n after stands = elim (cases_eq n (length old.kinds)) [
       | inl last ↦ ap new.leaf last ∙ enters.leaf_here
       | inr other ↦ enters.leaf n (omega (arith, many, count_more)) ∙
-          fresh.leaf n (omega (arith, many, count, count_more))
+          behind.later_leaf n after (omega (arith, many, count, count_more))
     ]
 
-    struck : (n place : ℕ) → n < length (take (i + 1) nodes) → new.struck n place ≡ false
-    struck n place stands = elim (cases_eq n (length old.kinds)) [
+    asserted : (n : ℕ) → first ≤ n → n < length (take (i + 1) nodes) → new.asserted n ≡ false
+    asserted n after stands = elim (cases_eq n (length old.kinds)) [
+      | inl last ↦ ap new.asserted last ∙ enters.asserted_here
+      | inr other ↦ enters.asserted n ∙ behind.later_asserted n after (omega (arith, many, count, count_more))
+    ]
+
+    struck : (n place : ℕ) → first ≤ n → n < length (take (i + 1) nodes) → new.struck n place ≡ false
+    struck n place after stands = elim (cases_eq n (length old.kinds)) [
       | inl last ↦ ap (λ (m : ℕ). new.struck m place) last ∙ enters.struck_here place
       | inr other ↦ enters.struck n place (omega (arith, many, count_more)) ∙
-          fresh.struck n place (omega (arith, many, count, count_more))
+          behind.later_struck n place after (omega (arith, many, count, count_more))
     ]
 
 -- ---- ends

@@ -41,9 +41,11 @@ served now = service now.graph.standing (ends_of 0 now.formulas.nodes) (length n
 
 -- the level is the innermost one still
 pub level_stays : (before old new : BranchValues) → IsLevelOver before old →
-    new.values.wires.parts ≡ old.values.wires.parts → new.values.saved ≡ old.values.saved →
+    new.values.parts ≡ old.values.parts → new.values.saved ≡ old.values.saved →
     new.marks.items ≡ old.marks.items → CanGoBack before.watch new.watch → IsLevelOver before new
 level_stays before old new over parts saved marks back = record {
+  each = over.each;
+  more = over.more;
   parts = parts ∙ over.parts;
   saved = saved ∙ over.saved;
   mark = over.mark;
@@ -171,7 +173,7 @@ module _ (was now : Assertions) (unions : List Union) (asserted differs : ℕ)
 
 module _ {X : Type 0} where
   -- the front of a list that grew is the list
-  front_of : (xs more all : List X) (count : ℕ) → all ≡ xs ++ more → count ≡ length xs → take count all ≡ xs
+  pub front_of : (xs more all : List X) (count : ℕ) → all ≡ xs ++ more → count ≡ length xs → take count all ≡ xs
   front_of xs more all count is e =
       ap₂ (λ (k : ℕ) (ys : List X). take k ys) e is ∙ take-append-le (length xs) xs more (omega arith)
       ∙ take_all (length xs) xs (omega arith)
@@ -213,7 +215,7 @@ part_stands_at formulas table node place part parts has at =
 
 -- the values know this place, also once they followed
 pub has_place_at : (was : Assertions) (struck : List (ℕ × ℕ)) (old new : BranchValues) → old.lost ≡ false →
-    AreValuesOf was struck old → new.values.wires.parts ≡ old.values.wires.parts → (node place part : ℕ)
+    AreValuesOf was struck old → new.values.parts ≡ old.values.parts → (node place part : ℕ)
     (parts : List ℕ) → HasNode was.formulas.nodes node (Or parts) → slice_get parts place ≡ Some part →
     HasPlace (given_of new.values) node place
 has_place_at was struck old new calm right same node place part parts has at =

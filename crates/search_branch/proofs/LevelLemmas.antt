@@ -63,12 +63,20 @@ module _ (before now : BranchValues) (over : IsLevelOver before now) (marks : Li
     shown_back = ap (λ (kept : Kept). kept.shown) nodes
         ∙ last_is now.values.saved before.values.saved before.values.shown now.values.shown over.saved
 
-    parts_back : new.values.wires.parts ≡ before.values.wires.parts
-    parts_back = ap (λ (kept : Kept). kept.wires.parts) nodes ∙ over.parts
+    -- only the nodes that stood then are left
+    parts_back : new.values.parts ≡ before.values.parts
+    parts_back =
+        let count : length new.values.shown.kinds ≡ length before.values.parts =
+        ap (λ (shown : Shown). length shown.kinds) shown_back ∙ sym over.each in
+        ap (λ (kept : Kept). kept.parts) nodes
+        ∙ ap (λ (shown : Shown). take (length shown.kinds) now.values.parts)
+        (sym (ap (λ (kept : Kept). kept.shown) nodes))
+        ∙ ap₂ (λ (k : ℕ) (parts : List (List ℕ)). take k parts) count over.parts
+        ∙ take-append-le (length before.values.parts) before.values.parts over.more (omega arith)
+        ∙ take_all (length before.values.parts) before.values.parts (omega arith)
 
     given_back : given_of new.values ≡ given_of before.values
-    given_back = ap₂ (λ (parts : List (List ℕ)) (shown : Shown). given_by (record { parts = parts; ups = [] }) shown)
-        parts_back shown_back
+    given_back = ap₂ given_by parts_back shown_back
 
     -- the values are those that were right when it was opened
     pub right_back : before.lost ≡ false → (stood : Assertions) (struck : List (ℕ × ℕ)) →
@@ -88,6 +96,8 @@ module _ (before now : BranchValues) (over : IsLevelOver before now) (marks : Li
     -- the level around it is the innermost one
     pub outer_level : (outer : BranchValues) → IsLevelOver outer before → IsLevelOver outer new
     outer_level outer around = record {
+      each = around.each;
+      more = around.more;
       parts = parts_back ∙ around.parts;
       saved = ap (λ (kept : Kept). kept.saved) nodes
           ∙ before_last now.values.saved before.values.saved before.values.shown over.saved ∙ around.saved;

@@ -15,3 +15,4 @@ pub mod StruckLemmas
 pub mod BranchLemmas
 pub mod ForallLemmas
 pub mod AssertLemmas
+pub mod GrowLemmas

@@ -1,6 +1,6 @@
 -- What is built at the start: no clash, nodes and ends one after the other, and a watch with more literals.
-use Rattle.std.proofs.Common.{suc, ◌≡◌, ◌⊎◌, inl, inr, ◌↔◌, ℕ, ◌+◌, ◌<◌, ◌≤◌, false, IsTrue, List, ◌∷◌, ◌++◌, length, take, All, Contains, refl, sym, ap, subst, ◌∙◌, arith}
-use Rattle.std.proofs.lemmas.List.{append_assoc, length-map, length-take-le}
+use Rattle.std.proofs.Common.{suc, ◌≡◌, ◌⊎◌, inl, inr, ◌↔◌, ℕ, ◌+◌, ◌<◌, ◌≤◌, false, IsTrue, List, ◌∷◌, ◌++◌, length, map, take, All, Contains, refl, sym, ap, subst, ◌∙◌, arith}
+use Rattle.std.proofs.lemmas.List.{append_assoc, length-map, length-take-le, take_all}
 use Rattle.graph_meaning.specs.declared.done.Done.{Done}
 use Rattle.graph_meaning.specs.Same.{Same}
 use Rattle.graph_meaning.specs.Standing.{differs_of}
@@ -17,8 +17,8 @@ use Rattle.search_watch.specs.declared.watch.Watch.{Watch}
 use Rattle.search_watch.specs.Literals.{Clashes}
 use Rattle.search_watch.specs.Service.{Serves, ServesNow, HasClash, service}
 use Rattle.search_branch.specs.Given.{kind_in, parts_in, ends_in, ends_of}
-use Rattle.search_branch.specs.Built.{AreFresh}
-use Rattle.search_branch.proofs.BuildLemmas.{one_fresh, ends_more}
+use Rattle.search_branch.specs.Grown.{ComesBehind}
+use Rattle.search_branch.proofs.BuildLemmas.{one_behind, ends_more}
 
 -- ---- no clash
 
@@ -37,11 +37,34 @@ not_lost standing none = (λ (e : IsTrue false). cc, λ clash. absurd (no_clash 
 
 -- ---- nodes
 
--- there are so many fresh nodes
-pub so_many : (nodes : List Node) (i : ℕ) (given : Given) → i ≤ length nodes → AreFresh (take i nodes) given →
-    length given.kinds ≡ i
-so_many nodes i given within fresh =
-    ap length fresh.kinds ∙ length-map (take i nodes) kind_in ∙ length-take-le i nodes within
+-- no node came yet
+pub none_behind : (nodes : List Node) (first : ℕ) (given : Given) → first ≤ length nodes →
+    given.kinds ≡ map kind_in (take first nodes) → given.parts ≡ map parts_in (take first nodes) →
+    ComesBehind (take first nodes) first given given
+none_behind nodes first given within kinds parts =
+    let count = length-take-le first nodes within in
+    record {
+      kinds = kinds;
+      parts = parts;
+      leaf = λ n less. refl;
+      asserted = λ n less. refl;
+      struck = λ n place less. refl;
+      later_leaf = λ n after stands. absurd (omega (arith, count, after, stands));
+      later_asserted = λ n after stands. absurd (omega (arith, count, after, stands));
+      later_struck = λ n place after stands. absurd (omega (arith, count, after, stands));
+    }
+
+-- all came
+pub all_behind : (nodes : List Node) (first count : ℕ) (old new : Given) → count ≡ length nodes →
+    ComesBehind (take count nodes) first old new → ComesBehind nodes first old new
+all_behind nodes first count old new many behind =
+    subst (λ (all : List Node). ComesBehind all first old new) (take_all count nodes (omega (arith, many))) behind
+
+-- there are so many nodes
+pub so_many : (nodes : List Node) (first i : ℕ) (start given : Given) → i ≤ length nodes →
+    ComesBehind (take i nodes) first start given → length given.kinds ≡ i
+so_many nodes first i start given within behind =
+    ap length behind.kinds ∙ length-map (take i nodes) kind_in ∙ length-take-le i nodes within
 
 -- the parts of a node are before it, where its children are
 earlier_parts : (n : ℕ) (node : Node) → All (λ part. part < n) (children_of node) →
@@ -62,13 +85,14 @@ parts_stand table n node parts kinds rules has same many =
     (earlier_parts n node (rules.earlier n node has)))
 
 -- one node more, of this kind and over these parts
-pub next_fresh : (nodes : List Node) (i : ℕ) (node : Node) (kind : Kind) (parts : List ℕ) (old new : Given) →
-    HasNode nodes i node → kind ≡ kind_in node → parts ≡ parts_in node → EntersNode kind parts old new →
-    AreFresh (take i nodes) old → AreFresh (take (i + 1) nodes) new
-next_fresh nodes i node kind parts old new has same_kind same_parts enters fresh =
-    one_fresh nodes i node old new has
+pub next_behind : (nodes : List Node) (first i : ℕ) (node : Node) (kind : Kind) (parts : List ℕ)
+    (start old new : Given) → first ≤ i → HasNode nodes i node → kind ≡ kind_in node → parts ≡ parts_in node →
+    EntersNode kind parts old new → ComesBehind (take i nodes) first start old →
+    ComesBehind (take (i + 1) nodes) first start new
+next_behind nodes first i node kind parts start old new from has same_kind same_parts enters behind =
+    one_behind nodes first i node start old new from has
     (subst (λ (k : Kind). EntersNode k (parts_in node) old new) same_kind
-    (subst (λ (ps : List ℕ). EntersNode kind ps old new) same_parts enters)) fresh
+    (subst (λ (ps : List ℕ). EntersNode kind ps old new) same_parts enters)) behind
 
 -- ---- the watch
 
@@ -81,6 +105,8 @@ serves_up_to standing ends bound more watch below serves = record {
       let lt = serves.literals slot item within in
       omega (arith, below, lt);
   differs = serves.differs;
+  terms = serves.terms;
+  ends_stand = serves.ends_stand;
 }
 
 -- where the one watch serves, the other does with these ends of a literal

@@ -3,5 +3,5 @@ pub mod Given
 pub mod Right
 pub mod Levels
 pub mod Told
-pub mod Built
+pub mod Grown
 pub mod Struck

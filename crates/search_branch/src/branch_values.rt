@@ -1,5 +1,5 @@
 //! The values of all formulas in a branch of the search.
-ghost use Rattle.std.specs.Prelude.{◌≡◌, ℕ, ◌<◌, ◌≤◌, ◌++◌, ◌∷◌, false, List, [], length, slice_get, Some, All, IfOk, OnOk};
+ghost use Rattle.std.specs.Prelude.{◌≡◌, ◌≢◌, ℕ, ◌<◌, ◌≤◌, ◌++◌, ◌∷◌, false, List, [], length, slice_get, Some, All, IfOk, IfErr, OnOk};
 ghost use Rattle.formula_table.specs.declared.node.Node.TheVariants.{Or};
 ghost use Rattle.formula_value.specs.Holds.{HasNode};
 ghost use Rattle.formula_table.specs.declared.node.Node.{Node as SpecNode};
@@ -7,7 +7,11 @@ ghost use Rattle.graph_meaning.specs.State.{replay};
 ghost use Rattle.formula_assert.specs.Held.{held, refuting_of};
 ghost use Rattle.formula_assert.specs.Assertions.{Assertions, held_of};
 ghost use Rattle.formula_assert.specs.Asserts.{Asserts};
-ghost use Rattle.formula_assert.specs.InLevel.{HoldsMoreOver};
+ghost use Rattle.formula_table.specs.declared.enter_fault.EnterFault.TheVariants.{Memory as NoMemory};
+ghost use Rattle.formula_table.specs.Instance.{HasVariables};
+ghost use Rattle.formula_assert.specs.AssertInstance.{TermsStand, AssertsInstance, StopsAssertInstance};
+ghost use Rattle.formula_assert.specs.InLevel.{HoldsMoreOver, KeepsLevels};
+ghost use Rattle.search_branch.specs.Grown.{HasGrown, StandIn};
 ghost use Rattle.search_branch.specs.declared.branch_values.BranchValues.{BranchValues as ValuesOf};
 ghost use Rattle.search_branch.specs.Right.{AreValuesOf};
 ghost use Rattle.search_branch.specs.Levels.{IsLevelOver};
@@ -15,15 +19,17 @@ ghost use Rattle.search_branch.specs.Steps.{IsStep, IsWithin, branch_of};
 ghost use Rattle.search_branch.specs.Told.{HasCome};
 ghost use Rattle.search_branch.specs.Struck.{IsPlaceOf};
 
-use crate::build::{is_lost, nodes_of, watch_of};
+use crate::build::{add_literals, enter_nodes, is_lost, watch_of};
 use crate::next::next_of;
 use crate::step::Step;
-use crate::tell::{strike_each, tell_all, tell_start};
+use crate::tell::{set_from, strike_each, tell_all, tell_start};
 use formula_assert::AssertionStack;
+use formula_assert::laws::{instance_law, over_law};
+use formula_table::EnterFault;
 use graph_meaning::Union;
 use graph_terms::Memory;
 use search_values::NodeValues;
-use search_watch::laws::can_go_back_further;
+use search_watch::laws::{can_go_back_further, terms_law};
 use search_watch::{Mark, Watch};
 use std::alloc::Global;
 
@@ -54,7 +60,8 @@ impl BranchValues {
     {
         let _rules = stack.depth();
         let watch = watch_of(alloc, stack)?;
-        let mut values = nodes_of(alloc, stack.formulas())?;
+        let mut values = NodeValues::new(alloc)?;
+        enter_nodes(alloc, &mut values, stack.formulas(), 0)?;
         tell_start(&mut values, &watch, stack)?;
         strike_each(&mut values, struck)?;
         let lost = is_lost(stack.graph());
@@ -115,7 +122,7 @@ impl BranchValues {
         requires within { asserted ≤ length stack.now.asserted }
         requires come { (was : Assertions) × (struck : List (ℕ × ℕ)) × HasCome was stack.now unions.now asserted differs × AreValuesOf was struck self.old }
         ensures values { OnOk result ((was : Assertions) (struck : List (ℕ × ℕ)) → HasCome was stack.now unions.now asserted differs → AreValuesOf was struck self.old → AreValuesOf stack.now struck self.new) }
-        ensures parts { OnOk result (self.new.values.wires.parts ≡ self.old.values.wires.parts) }
+        ensures parts { OnOk result (self.new.values.parts ≡ self.old.values.parts) }
         ensures level { OnOk result ((before : ValuesOf) → IsLevelOver before self.old → IsLevelOver before self.new) }
     {
         let _rules = stack.depth();
@@ -180,6 +187,60 @@ impl BranchValues {
         stack.refute(part, &mut unions)?;
         self.follow(alloc, stack, &unions, asserted, differs)?;
         self.values.strike(node, place)?;
+        Ok(())
+    }
+
+    /// Follows the stack over terms that came, and over the formulas from this one on. There may be no clash.
+    fn grow(&mut self, alloc: Global, stack: &AssertionStack, first: u32) -> Result<(), Memory>
+        requires calm { self.old.lost ≡ false }
+        requires first { first ≤ length stack.now.formulas.nodes }
+        requires grown { (was : Assertions) × (struck : List (ℕ × ℕ)) × HasGrown was stack.now first × AreValuesOf was struck self.old }
+        ensures calm { OnOk result (self.new.lost ≡ false) }
+        ensures values { OnOk result ((was : Assertions) (struck : List (ℕ × ℕ)) → HasGrown was stack.now first → StandIn was struck → AreValuesOf was struck self.old → AreValuesOf stack.now struck self.new) }
+        ensures level { OnOk result ((before : ValuesOf) → IsLevelOver before self.old → IsLevelOver before self.new) }
+    {
+        let _rules = stack.depth();
+        can_go_back_further();
+        terms_law();
+        self.watch.follow_terms(alloc, stack.graph())?;
+        add_literals(&mut self.watch, stack, first)?;
+        enter_nodes(alloc, &mut self.values, stack.formulas(), first)?;
+        set_from(&mut self.values, &self.watch, stack, first)?;
+        Ok(())
+    }
+
+    /// Enters the body of a forall over a tuple of terms, one for each of its variables, and then asserts the root in the
+    /// stack. The refusals are those of the stack's own call. After one the values are those of nothing; after want of
+    /// memory a part may stand in the stack, which goes where a mark is gone back to.
+    pub fn assert_instance(
+        &mut self,
+        alloc: Global,
+        stack: &mut AssertionStack,
+        forall: u32,
+        tuple: &[u32],
+    ) -> Result<(), EnterFault>
+        requires variables { HasVariables stack.old.formulas forall (length tuple.now) }
+        requires tuple { TermsStand stack.old tuple.now }
+        requires values { (struck : List (ℕ × ℕ)) × StandIn stack.old struck × AreValuesOf stack.old struck self.old }
+        ensures ok { OnOk result (AssertsInstance forall tuple.now stack.old stack.new) }
+        ensures fault { IfErr result (λ fault. fault ≢ NoMemory → StopsAssertInstance forall tuple.now stack.old stack.new fault) }
+        ensures levels { KeepsLevels stack.old stack.new }
+        ensures values { OnOk result ((struck : List (ℕ × ℕ)) → StandIn stack.old struck → AreValuesOf stack.old struck self.old → AreValuesOf stack.new struck self.new) }
+        ensures level { OnOk result ((before : ValuesOf) → IsLevelOver before self.old → IsLevelOver before self.new) }
+    {
+        over_law();
+        instance_law();
+        terms_law();
+        let _rules = stack.depth();
+        if self.lost {
+            stack.assert_instance(forall, tuple)?;
+            let _rules_after = stack.depth();
+            return Ok(());
+        }
+        let first = stack.formulas().len();
+        let root = stack.enter_instance(forall, tuple)?;
+        self.grow(alloc, stack, first)?;
+        self.assert(alloc, stack, root)?;
         Ok(())
     }
 }

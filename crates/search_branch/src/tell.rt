@@ -1,11 +1,10 @@
 //! What came is told to the values of nodes.
 ghost use Rattle.std.specs.Prelude.{◌≡◌, ℕ, ◌<◌, ◌≤◌, length, map, take, All, Contains, OnOk};
-ghost use Rattle.search_values.specs.Given.{kind_of, HasPlace};
+ghost use Rattle.search_values.specs.Given.{Given, kind_of, HasPlace};
 ghost use Rattle.search_values.specs.Kept.{given_of};
 ghost use Rattle.search_watch.specs.Service.{ServesNow};
 ghost use Rattle.search_branch.specs.Given.{kind_in, AreForallValues};
-ghost use Rattle.formula_truth.specs.declared.truth.Truth.TheVariants.{Unset};
-ghost use Rattle.search_branch.specs.Built.{AreFresh};
+ghost use Rattle.search_branch.specs.Grown.{ComesBehind};
 ghost use Rattle.search_branch.specs.Told.{KeepsNodes, KeepsLeaves, TellsLeaf, AreToldBut, AreTold, AreAsserted};
 ghost use Rattle.search_branch.specs.Told.{TellsForall, AssertsNode, TellsAll};
 ghost use Rattle.search_branch.specs.Struck.{StrikesAll};
@@ -144,20 +143,21 @@ pub(crate) fn tell_all(
     Ok(())
 }
 
-/// Gives each leaf the value by what stands, where none has one yet.
-fn set_each(
+/// Gives each leaf from this one on the value by what stands, if there is one.
+pub(crate) fn set_from(
     values: &mut NodeValues,
     watch: &Watch,
     stack: &AssertionStack,
+    first: u32,
 ) -> Result<(), AllocError>
     requires kinds { (given_of values.old).kinds ≡ map kind_in stack.now.formulas.nodes }
     requires serves { ServesNow stack.now.graph.standing watch.now }
-    requires unset { (n : ℕ) → n < length stack.now.formulas.nodes → (given_of values.old).leaf n ≡ Unset }
+    requires told { AreToldBut (λ n. first ≤ n) stack.now.graph.standing stack.now.formulas.nodes (given_of values.old) }
     ensures told { OnOk result (AreTold stack.now.graph.standing stack.now.formulas.nodes (given_of values.new)) }
     ensures keeps { OnOk result (KeepsNodes stack.now.formulas.nodes (given_of values.old) (given_of values.new)) }
     ensures saved { values.new.saved ≡ values.old.saved }
 {
-    for n in 0..stack.formulas().len() {
+    for n in first..stack.formulas().len() {
         set_one(values, watch, stack, n)?;
     }
     Ok(())
@@ -169,11 +169,11 @@ pub(crate) fn tell_start(
     watch: &Watch,
     stack: &AssertionStack,
 ) -> Result<(), AllocError>
-    requires fresh { AreFresh stack.now.formulas.nodes (given_of values.old) }
+    requires behind { (old : Given) × ComesBehind stack.now.formulas.nodes 0 old (given_of values.old) }
     requires serves { ServesNow stack.now.graph.standing watch.now }
     ensures tells { OnOk result (TellsAll stack.now (given_of values.old) (given_of values.new)) }
 {
-    set_each(values, watch, stack)?;
+    set_from(values, watch, stack, 0)?;
     assert_new(values, stack.formulas(), stack.asserted(), 0)?;
     Ok(())
 }

@@ -2,7 +2,7 @@ use Rattle.std.proofs.Common.{◌≡◌, ℕ, ◌≤◌, map}
 use Rattle.search_values.specs.Kept.{given_of}
 use Rattle.search_branch.specs.Given.{kind_in}
 use Rattle.search_branch.specs.Told.{KeepsNodes, AreToldBut}
-use Rattle.search_branch.proofs.tell.set_each.Given as goal
+use Rattle.search_branch.proofs.tell.set_from.Given as goal
 
 abbrev pub invariant-loop-n : goal.invariant-loop-n
 invariant-loop-n l = record {

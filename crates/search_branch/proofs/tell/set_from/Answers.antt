@@ -2,7 +2,7 @@ use Rattle.std.proofs.Common.{ℕ, ◌+◌, ◌≤◌, ◌∙◌}
 use Rattle.search_values.specs.Kept.{given_of}
 use Rattle.search_branch.proofs.TellLemmas.{keeps_more, told_more}
 use Rattle.search_branch.proofs.ToldLemmas.{still_waits}
-use Rattle.search_branch.proofs.tell.set_each.Goals as goal
+use Rattle.search_branch.proofs.tell.set_from.Goals as goal
 
 pub loop-n-preserved : goal.loop-n-preserved
 loop-n-preserved c =

@@ -1,9 +1,0 @@
-use Rattle.std.proofs.Common.{length, take}
-use Rattle.search_watch.specs.Service.{Serves, service}
-use Rattle.search_branch.specs.Given.{ends_of}
-use Rattle.search_branch.proofs.build.watch_of.Given as goal
-
-abbrev pub invariant-loop-n : goal.invariant-loop-n
-invariant-loop-n l =
-    let nodes = l.stack.formulas.nodes in
-    Serves (service l.stack.graph.standing (ends_of 0 (take l.n nodes)) (length nodes)) l.watch
