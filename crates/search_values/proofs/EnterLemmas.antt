@@ -213,13 +213,14 @@ leaf_unset And ts = refl
 leaf_unset Or ts = refl
 
 -- what is given has one node more
-pub enters_node : (wires after : Wires) (s : Shown) (parts : List ℕ) (kind : Kind) (truth : Truth) (places : List Place) → AreAligned s → NoneStruck places → Enters wires after s parts kind truth places → EntersNode kind parts (given_by wires s) (given_by after (with_node s kind truth places))
+pub enters_node : (wires after : Wires) (s : Shown) (parts : List ℕ) (kind : Kind) (truth : Truth) (places : List Place) → AreAligned s → NoneStruck places → Enters wires after s parts kind truth places → EntersNode kind parts (given_by wires.parts s) (given_by after.parts (with_node s kind truth places))
 enters_node wires after s parts kind truth places aligned none enters = record {
   kinds = refl;
   parts_are = enters.grows;
   leaf = λ m h. ap (λ (k : Kind). leaf_only k (truth_at (with_node s kind truth places) m)) (get_push s.kinds kind Leaf m h) ∙ ap (leaf_only (kind_at s m)) (get_push s.truths truth Unset m (omega (arith, aligned.truths)));
   leaf_here = ap (λ (k : Kind). leaf_only k (truth_at (with_node s kind truth places) (length s.kinds))) (get_last s.kinds kind Leaf (length s.kinds) refl) ∙ ap (leaf_only kind) (get_last s.truths truth Unset (length s.kinds) (sym aligned.truths) ∙ enters.value) ∙ leaf_unset kind (told_by places);
   asserted = λ m. get_default s.asserted false m;
+  asserted_here = get_last s.asserted false false (length s.kinds) (sym aligned.asserted);
   struck = λ m i h. ap (λ (ps : List Place). (slice_index_or ps i blank).struck) (get_push s.places places [] m (omega (arith, aligned.places)));
   struck_here = λ i. ap (λ (ps : List Place). (slice_index_or ps i blank).struck) (get_last s.places places [] (length s.kinds) (sym aligned.places)) ∙ none i;
 }

@@ -36,7 +36,7 @@ module _ (joins : AreJoins) (wires : Wires) (s : Shown) (right : IsRight wires s
   pub unit_has_left : (n : ℕ) → unit_at s n ≡ true → 0 < count_by is_left_place (places_at s n)
   unit_has_left n e = omega (arith, (unit_case (kind_at s n) (truth_at s n) (asserted_at s n) (counts_of (places_at s n)) e).1)
 
-  pub first_unit_is : (n i : ℕ) → IsFirstPassing (unit_at s) n → i < length (places_at s n) → is_left_place (place_at s n i) ≡ true → IsFirstUnit (given_by wires s) n i
+  pub first_unit_is : (n i : ℕ) → IsFirstPassing (unit_at s) n → i < length (places_at s n) → is_left_place (place_at s n i) ≡ true → IsFirstUnit (given_by wires.parts s) n i
   first_unit_is n i first within left = record {
     is_unit = unit_by joins wires s right.wired right.are right.settled n i within left first.passes;
     first = λ m j lt unit. differ (unit_at s m) (unit_on joins wires s right.wired right.are right.settled m j unit) (first.first m lt);
@@ -45,25 +45,25 @@ module _ (joins : AreJoins) (wires : Wires) (s : Shown) (right : IsRight wires s
       differ : (b : Bool) → b ≡ true → b ≡ false → ⊥
       differ b p q = cc
 
-  pub no_unit : NonePasses (unit_at s) → (n i : ℕ) → IsUnit (given_by wires s) n i → ⊥
+  pub no_unit : NonePasses (unit_at s) → (n i : ℕ) → IsUnit (given_by wires.parts s) n i → ⊥
   no_unit none n i unit = let e = unit_on joins wires s right.wired right.are right.settled n i unit in let f = none n in cc
 
-  pub no_stuck : NonePasses (stuck_at s) → (n : ℕ) → IsStuck (given_by wires s) n → ⊥
+  pub no_stuck : NonePasses (stuck_at s) → (n : ℕ) → IsStuck (given_by wires.parts s) n → ⊥
   no_stuck none n stuck = let e = stuck_on joins wires s right.wired right.are right.settled n stuck in let f = none n in cc
 
-  pub no_open : NonePasses (open_at s) → (n : ℕ) → IsOpen (given_by wires s) n → ⊥
+  pub no_open : NonePasses (open_at s) → (n : ℕ) → IsOpen (given_by wires.parts s) n → ⊥
   no_open none n is = let e = open_on joins wires s right.wired right.are right.settled n is in let f = none n in cc
 
   -- where none is open each has a Yes part
-  pub each_yes : NonePasses (open_at s) → (n : ℕ) → IsAssertedOr (given_by wires s) n → HasYesPart (given_by wires s) n
+  pub each_yes : NonePasses (open_at s) → (n : ℕ) → IsAssertedOr (given_by wires.parts s) n → HasYesPart (given_by wires.parts s) n
   each_yes none n is =
       let within = or_stands joins wires s right.wired right.are right.settled n is.is_or in
       let e = yes_else (kind_at s n) (truth_at s n) (asserted_at s n) is.is_or is.asserted (none n) in
-      yes_part (given_by wires s) n is.is_or
+      yes_part (given_by wires.parts s) n is.is_or
       (yes_by joins wires s right.wired right.are right.settled (suc n) n (omega arith) within e)
 
   -- an open disjunction that isn't stuck has something left over
-  pub open_has_left : ((n : ℕ) → IsStuck (given_by wires s) n → ⊥) → (n : ℕ) → open_at s n ≡ true → 0 < count_by is_left_place (places_at s n)
+  pub open_has_left : ((n : ℕ) → IsStuck (given_by wires.parts s) n → ⊥) → (n : ℕ) → open_at s n ≡ true → 0 < count_by is_left_place (places_at s n)
   open_has_left quiet n e = elim (some_or_none (count_by is_left_place (places_at s n))) [
     | inl none ↦ let o = open_case (kind_at s n) (truth_at s n) (asserted_at s n) e in
         absurd (quiet n (stuck_by joins wires s right.wired right.are right.settled n (stuck_back (kind_at s n) (asserted_at s n) (counts_of (places_at s n)) o.is_or o.is_asserted none)))
@@ -73,7 +73,7 @@ module _ (joins : AreJoins) (wires : Wires) (s : Shown) (right : IsRight wires s
       some_or_none : (k : ℕ) → (k ≡ 0) ⊎ (0 < k)
       some_or_none k = search arith
 
-  pub split_is : (n i : ℕ) → IsFirstPassing (open_at s) n → i < length (places_at s n) → is_left_place (place_at s n i) ≡ true → ((j : ℕ) → j < i → is_left_place (place_at s n j) ≡ false) → IsSplit (given_by wires s) n i
+  pub split_is : (n i : ℕ) → IsFirstPassing (open_at s) n → i < length (places_at s n) → is_left_place (place_at s n i) ≡ true → ((j : ℕ) → j < i → is_left_place (place_at s n j) ≡ false) → IsSplit (given_by wires.parts s) n i
   split_is n i first within left before = record {
     is_open = open_by joins wires s right.wired right.are right.settled n first.passes;
     first = λ m lt is. differ (open_at s m) (open_on joins wires s right.wired right.are right.settled m is) (first.first m lt);

@@ -10,7 +10,7 @@ use Rattle.search_values.specs.Given.{HasYes, HasNo, HasValue}
 use Rattle.search_values.specs.GivenBy.{leaf_only, given_by}
 
 -- a leaf of which no value is known has none on the board
-pub leaf_is_unset : (wires : Wires) (s : Shown) (n : ℕ) → kind_at s n ≡ Leaf → HasValue (given_by wires s) n Unset →
+pub leaf_is_unset : (wires : Wires) (s : Shown) (n : ℕ) → kind_at s n ≡ Leaf → HasValue (given_by wires.parts s) n Unset →
     truth_at s n ≡ Unset
 leaf_is_unset wires s n leaf unset = go (truth_at s n) refl
   where

@@ -1,13 +1,13 @@
 -- Levels and what was saved for them.
 use Rattle.std.proofs.Common.{zero, suc, ◌≡◌, ◌<◌, ◌≤◌, ◌+◌, ◌-◌, ◌⊎◌, inl, inr, ℕ, List, [], ◌∷◌, ◌++◌, length, map, take, slice_index, slice_index_or, refl, sym, ◌∙◌, ap, subst, arith, length-append}
-use Rattle.std.proofs.lemmas.List.{map-append, length-map, take-map, get_or-map, length-take, drop_all}
+use Rattle.std.proofs.lemmas.List.{map-append, length-map, take-map, get_or-map, length-take, drop_all, take_all}
 use Rattle.graph_trail.specs.Undo.{state_before}
-use Rattle.search_board.specs.Board.{Shown}
+use Rattle.search_board.specs.Board.{Shown, no_nodes}
 use Rattle.search_board.specs.Undo.{before_change}
 use Rattle.search_values.specs.declared.noted.Noted.{Noted}
 use Rattle.search_values.specs.Wiring.{Wires}
 use Rattle.search_values.specs.History.{now, notes, board_at, KeepsHistory}
-use Rattle.search_values.specs.Kept.{Kept, popped}
+use Rattle.search_values.specs.Kept.{Kept, popped, IsStacked}
 use Rattle.search_values.specs.KeptInside.{IsRight, AreLevels}
 
 map_same : {A : Type 0} (f g : ℕ → A) (xs : List ℕ) → ((k : ℕ) → k < length xs → f (slice_index xs k) ≡ g (slice_index xs k)) → map f xs ≡ map g xs
@@ -117,11 +117,14 @@ module _ (wires : Wires) (old new : Noted) (levels : List ℕ) (mark : ℕ) (are
   pub right_pop : now new ≡ board_at old mark → IsRight wires (now new)
   right_pop gives = subst (λ (s : Shown). IsRight wires s) (ap (board_at old) (get_last levels mark) ∙ sym gives) (are.right (length levels) (omega (arith, length-append levels (mark ∷ []))))
 
-  pub saved_pop : now new ≡ board_at old mark → (let kept : Kept = record { wires = wires; shown = now old; saved = map (board_at old) (levels ++ mark ∷ []) } in let left : Kept = record { wires = wires; shown = now new; saved = map (board_at new) levels } in left ≡ popped kept)
-  saved_pop gives = same_kept _ _ _ _ (gives ∙ sym shown) (map_same (board_at new) (board_at old) levels (λ k h. at (slice_index levels k) (below k h)) ∙ sym rest)
+  pub saved_pop : now new ≡ board_at old mark → (let kept : Kept = record { parts = wires.parts; shown = now old; saved = map (board_at old) (levels ++ mark ∷ []) } in let left : Kept = record { parts = wires.parts; shown = now new; saved = map (board_at new) levels } in left ≡ popped kept)
+  saved_pop gives = same_kept _ _ _ _ _ _ (sym (ap (λ (s : Shown). take (length s.kinds) wires.parts) shown ∙ cut)) (gives ∙ sym shown) (map_same (board_at new) (board_at old) levels (λ k h. at (slice_index levels k) (below k h)) ∙ sym rest)
     where
-      same_kept : (s t : Shown) (xs ys : List Shown) → s ≡ t → xs ≡ ys → (let one : Kept = record { wires = wires; shown = s; saved = xs } in let two : Kept = record { wires = wires; shown = t; saved = ys } in one ≡ two)
-      same_kept s t xs ys p q = cc
+      same_kept : (ps qs : List (List ℕ)) (s t : Shown) (xs ys : List Shown) → ps ≡ qs → s ≡ t → xs ≡ ys → (let one : Kept = record { parts = ps; shown = s; saved = xs } in let two : Kept = record { parts = qs; shown = t; saved = ys } in one ≡ two)
+      same_kept ps qs s t xs ys o p q = cc
+
+      cut : take (length (board_at old mark).kinds) wires.parts ≡ wires.parts
+      cut = take_all (length (board_at old mark).kinds) wires.parts (omega (arith, ap (λ (m : ℕ). length (board_at old m).kinds) (get_last levels mark), (are.right (length levels) (omega (arith, length-append levels (mark ∷ [])))).are.nodes))
 
       count : length (map (board_at old) (levels ++ mark ∷ [])) - 1 ≡ length levels
       count = omega (arith, length-map (levels ++ mark ∷ []) (board_at old), length-append levels (mark ∷ []))
@@ -131,3 +134,21 @@ module _ (wires : Wires) (old new : Noted) (levels : List ℕ) (mark : ℕ) (are
 
       rest : take (length (map (board_at old) (levels ++ mark ∷ [])) - 1) (map (board_at old) (levels ++ mark ∷ [])) ≡ map (board_at old) levels
       rest = ap (λ k. take k (map (board_at old) (levels ++ mark ∷ []))) count ∙ take-map (board_at old) (length levels) (levels ++ mark ∷ []) ∙ ap (map (board_at old)) (take_front levels mark)
+
+index_is : (xs : List ℕ) (k : ℕ) → k < length xs → slice_index xs k ≡ slice_index_or xs k 0
+index_is [] k h = absurd (omega arith)
+index_is (x ∷ xs) zero h = refl
+index_is (x ∷ xs) (suc k) h = index_is xs k (omega arith)
+
+-- each level has its nodes
+pub stacked : (wires : Wires) (noted : Noted) (levels : List ℕ) → IsRight wires (now noted) → AreLevels wires noted levels → (let kept : Kept = record { parts = wires.parts; shown = now noted; saved = map (board_at noted) levels } in IsStacked kept)
+stacked wires noted levels right are = record {
+  nodes = right.are.nodes;
+  rising = λ j k le lt. omega (arith, many j (omega (arith, lt, le)), many k lt);
+  within = λ k lt. omega (arith, many k lt, right.are.nodes);
+}
+  where
+    many : (k : ℕ) → k < length (map (board_at noted) levels) → length (slice_index_or (map (board_at noted) levels) k no_nodes).kinds ≡ length wires.parts
+    many k lt =
+        let within : k < length levels = omega (arith, lt, length-map levels (board_at noted)) in
+        ap (λ (s : Shown). length s.kinds) (get_or-map (board_at noted) levels k 0 no_nodes within ∙ ap (board_at noted) (sym (index_is levels k within))) ∙ sym (are.right k within).are.nodes

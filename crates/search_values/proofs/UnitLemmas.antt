@@ -79,7 +79,7 @@ no_value_not t e f = let g = ap is_no_value f in cc
 -- ---- what is left over
 
 module _ (joins : AreJoins) (wires : Wires) (s : Shown) (wired : IsWired wires) (are : AreWires wires s) (settled : IsSettled wires s) where
-  pub left_by : (n i : ℕ) → i < length (places_at s n) → is_left_place (place_at s n i) ≡ true → IsLeftOver (given_by wires s) n i
+  pub left_by : (n i : ℕ) → i < length (places_at s n) → is_left_place (place_at s n i) ≡ true → IsLeftOver (given_by wires.parts s) n i
   left_by n i h e =
       let place : i < length (parts_at wires n) = omega (arith, are.places n) in
       let at = place_of joins wires s wired are settled n i place in
@@ -90,7 +90,7 @@ module _ (joins : AreJoins) (wires : Wires) (s : Shown) (wired : IsWired wires) 
         not_struck = not_true _ both.1;
       }
 
-  pub left_on : (n i : ℕ) → IsLeftOver (given_by wires s) n i → is_left_place (place_at s n i) ≡ true
+  pub left_on : (n i : ℕ) → IsLeftOver (given_by wires.parts s) n i → is_left_place (place_at s n i) ≡ true
   left_on n i left =
       let at = place_of joins wires s wired are settled n i left.place in
       let part = part_at wires n i in
@@ -102,10 +102,10 @@ module _ (joins : AreJoins) (wires : Wires) (s : Shown) (wired : IsWired wires) 
 
   -- ---- open disjunctions
 
-  pub no_yes_by : (n : ℕ) → n < length wires.parts → kind_at s n ≡ Or → is_yes_value (truth_at s n) ≡ false → HasNoYesPart (given_by wires s) n
+  pub no_yes_by : (n : ℕ) → n < length wires.parts → kind_at s n ≡ Or → is_yes_value (truth_at s n) ≡ false → HasNoYesPart (given_by wires.parts s) n
   no_yes_by n h is_or not_yes i place has = yes_value_not (truth_at s n) not_yes (yes_on joins wires s wired are settled h (HasYes.some {i = i} is_or place has))
 
-  pub no_yes_on : (n : ℕ) → n < length wires.parts → kind_at s n ≡ Or → HasNoYesPart (given_by wires s) n → is_yes_value (truth_at s n) ≡ false
+  pub no_yes_on : (n : ℕ) → n < length wires.parts → kind_at s n ≡ Or → HasNoYesPart (given_by wires.parts s) n → is_yes_value (truth_at s n) ≡ false
   no_yes_on n h is_or none = not_yes_value (truth_at s n) (λ e.
       let found = some_any joins.disjunction (places_at s n) (sym (some_is joins wires s wired are settled n h is_or) ∙ e) in
       let place : found.0 < length (parts_at wires n) = omega (arith, are.places n, found.1) in
@@ -122,16 +122,16 @@ module _ (joins : AreJoins) (wires : Wires) (s : Shown) (wired : IsWired wires) 
       stands (k ∷ ks) zero e = omega arith
       stands (k ∷ ks) (suc m) e = omega (arith, stands ks m e)
 
-  pub open_by : (n : ℕ) → open_at s n ≡ true → IsOpen (given_by wires s) n
+  pub open_by : (n : ℕ) → open_at s n ≡ true → IsOpen (given_by wires.parts s) n
   open_by n e = let o = open_case (kind_at s n) (truth_at s n) (asserted_at s n) e in
       record { is_or = record { is_or = o.is_or; asserted = o.is_asserted }; no_yes = no_yes_by n (or_stands n o.is_or) o.is_or o.not_yes }
 
-  pub open_on : (n : ℕ) → IsOpen (given_by wires s) n → open_at s n ≡ true
+  pub open_on : (n : ℕ) → IsOpen (given_by wires.parts s) n → open_at s n ≡ true
   open_on n o = open_back (kind_at s n) (truth_at s n) (asserted_at s n) o.is_or.is_or o.is_or.asserted (no_yes_on n (or_stands n o.is_or.is_or) o.is_or.is_or o.no_yes)
 
   -- ---- units
 
-  pub unit_by : (n i : ℕ) → i < length (places_at s n) → is_left_place (place_at s n i) ≡ true → unit_at s n ≡ true → IsUnit (given_by wires s) n i
+  pub unit_by : (n i : ℕ) → i < length (places_at s n) → is_left_place (place_at s n i) ≡ true → unit_at s n ≡ true → IsUnit (given_by wires.parts s) n i
   unit_by n i h left e =
       let u = unit_case (kind_at s n) (truth_at s n) (asserted_at s n) (counts_of (places_at s n)) e in
       let o = u.0 in
@@ -147,7 +147,7 @@ module _ (joins : AreJoins) (wires : Wires) (s : Shown) (wired : IsWired wires) 
         not_asserted = sym (taken_is joins wires s wired are settled n i (omega (arith, are.places n))) ∙ taken;
       }
 
-  pub unit_on : (n i : ℕ) → IsUnit (given_by wires s) n i → unit_at s n ≡ true
+  pub unit_on : (n i : ℕ) → IsUnit (given_by wires.parts s) n i → unit_at s n ≡ true
   unit_on n i u =
       let h : i < length (places_at s n) = omega (arith, are.places n, u.left.place) in
       let left = left_on n i u.left in
@@ -159,13 +159,13 @@ module _ (joins : AreJoins) (wires : Wires) (s : Shown) (wired : IsWired wires) 
 
   -- ---- stuck disjunctions
 
-  pub stuck_by : (n : ℕ) → stuck_at s n ≡ true → IsStuck (given_by wires s) n
+  pub stuck_by : (n : ℕ) → stuck_at s n ≡ true → IsStuck (given_by wires.parts s) n
   stuck_by n e = let k = stuck_case (kind_at s n) (asserted_at s n) (counts_of (places_at s n)) e in record {
     is_or = record { is_or = k.0; asserted = k.1 };
     none = λ i left. let f = none_pass is_left_place blank (places_at s n) k.2 i (omega (arith, are.places n, left.place)) in let g = left_on n i left in absurd (cc);
   }
 
-  pub stuck_on : (n : ℕ) → IsStuck (given_by wires s) n → stuck_at s n ≡ true
+  pub stuck_on : (n : ℕ) → IsStuck (given_by wires.parts s) n → stuck_at s n ≡ true
   stuck_on n k = stuck_back (kind_at s n) (asserted_at s n) (counts_of (places_at s n)) k.is_or.is_or k.is_or.asserted
       (count_none is_left_place blank (places_at s n) (λ i h. elim (true_or_false (is_left_place (place_at s n i))) [
         | inl left ↦ absurd (k.none i (left_by n i h left))

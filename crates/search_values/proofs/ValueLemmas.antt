@@ -68,7 +68,7 @@ module _ (joins : AreJoins) (wires : Wires) (s : Shown) (wired : IsWired wires) 
   some_is n h is_or = settled.values n h ∙ ap (λ (k : Kind). value_of k (told_by (places_at s n)) (truth_at s n)) is_or
 
   -- what has a value by definition has it on the board
-  pub yes_on : {n : ℕ} → n < length wires.parts → HasYes (given_by wires s) n → truth_at s n ≡ Yes
+  pub yes_on : {n : ℕ} → n < length wires.parts → HasYes (given_by wires.parts s) n → truth_at s n ≡ Yes
   yes_on {n = n} h (HasYes.leaf is_leaf e) = sym (ap (λ (k : Kind). leaf_only k (truth_at s n)) is_leaf) ∙ e
   yes_on {n = n} h (HasYes.every is_and each) =
       all_is n h is_and ∙ each_all joins.conjunction (places_at s n) (λ i at. let place : i < length (parts_at wires n) = omega (arith, are.places n) in
@@ -76,7 +76,7 @@ module _ (joins : AreJoins) (wires : Wires) (s : Shown) (wired : IsWired wires) 
   yes_on {n = n} h (HasYes.some {i = i} is_or place has) =
       some_is n h is_or ∙ any_some joins.disjunction (places_at s n) i (omega (arith, are.places n)) (told_is n i place ∙ yes_on (omega (arith, wired.earlier n i (place_of n i place))) has)
 
-  pub no_on : {n : ℕ} → n < length wires.parts → HasNo (given_by wires s) n → truth_at s n ≡ No
+  pub no_on : {n : ℕ} → n < length wires.parts → HasNo (given_by wires.parts s) n → truth_at s n ≡ No
   no_on {n = n} h (HasNo.leaf is_leaf e) = sym (ap (λ (k : Kind). leaf_only k (truth_at s n)) is_leaf) ∙ e
   no_on {n = n} h (HasNo.every is_or each) =
       some_is n h is_or ∙ each_all joins.disjunction (places_at s n) (λ i at. let place : i < length (parts_at wires n) = omega (arith, are.places n) in
@@ -85,11 +85,11 @@ module _ (joins : AreJoins) (wires : Wires) (s : Shown) (wired : IsWired wires) 
       all_is n h is_and ∙ any_some joins.conjunction (places_at s n) i (omega (arith, are.places n)) (told_is n i place ∙ no_on (omega (arith, wired.earlier n i (place_of n i place))) has)
 
   -- what has a value on the board has it by definition
-  pub yes_by : (fuel n : ℕ) → n < fuel → n < length wires.parts → truth_at s n ≡ Yes → HasYes (given_by wires s) n
+  pub yes_by : (fuel n : ℕ) → n < fuel → n < length wires.parts → truth_at s n ≡ Yes → HasYes (given_by wires.parts s) n
   yes_by zero n less h e = absurd (omega arith)
   yes_by (suc fuel) n less h e = go (yes_by fuel) (kind_at s n) refl
     where
-      go : ((m : ℕ) → m < fuel → m < length wires.parts → truth_at s m ≡ Yes → HasYes (given_by wires s) m) → (k : Kind) → kind_at s n ≡ k → HasYes (given_by wires s) n
+      go : ((m : ℕ) → m < fuel → m < length wires.parts → truth_at s m ≡ Yes → HasYes (given_by wires.parts s) m) → (k : Kind) → kind_at s n ≡ k → HasYes (given_by wires.parts s) n
       go again Leaf is = HasYes.leaf is (ap (λ (k : Kind). leaf_only k (truth_at s n)) is ∙ e)
       go again And is = HasYes.every is (λ i place. again (part_at wires n i) (omega (arith, wired.earlier n i (place_of n i place))) (omega (arith, wired.earlier n i (place_of n i place)))
           (sym (told_is n i place) ∙ all_each joins.conjunction (places_at s n) (sym (all_is n h is) ∙ e) i (omega (arith, are.places n))))
@@ -98,11 +98,11 @@ module _ (joins : AreJoins) (wires : Wires) (s : Shown) (wired : IsWired wires) 
           HasYes.some {i = found.0} is place (again (part_at wires n found.0) (omega (arith, wired.earlier n found.0 (place_of n found.0 place))) (omega (arith, wired.earlier n found.0 (place_of n found.0 place)))
           (sym (told_is n found.0 place) ∙ found.2))
 
-  pub no_by : (fuel n : ℕ) → n < fuel → n < length wires.parts → truth_at s n ≡ No → HasNo (given_by wires s) n
+  pub no_by : (fuel n : ℕ) → n < fuel → n < length wires.parts → truth_at s n ≡ No → HasNo (given_by wires.parts s) n
   no_by zero n less h e = absurd (omega arith)
   no_by (suc fuel) n less h e = go (no_by fuel) (kind_at s n) refl
     where
-      go : ((m : ℕ) → m < fuel → m < length wires.parts → truth_at s m ≡ No → HasNo (given_by wires s) m) → (k : Kind) → kind_at s n ≡ k → HasNo (given_by wires s) n
+      go : ((m : ℕ) → m < fuel → m < length wires.parts → truth_at s m ≡ No → HasNo (given_by wires.parts s) m) → (k : Kind) → kind_at s n ≡ k → HasNo (given_by wires.parts s) n
       go again Leaf is = HasNo.leaf is (ap (λ (k : Kind). leaf_only k (truth_at s n)) is ∙ e)
       go again Or is = HasNo.every is (λ i place. again (part_at wires n i) (omega (arith, wired.earlier n i (place_of n i place))) (omega (arith, wired.earlier n i (place_of n i place)))
           (sym (told_is n i place) ∙ all_each joins.disjunction (places_at s n) (sym (some_is n h is) ∙ e) i (omega (arith, are.places n))))
@@ -112,10 +112,10 @@ module _ (joins : AreJoins) (wires : Wires) (s : Shown) (wired : IsWired wires) 
           (sym (told_is n found.0 place) ∙ found.2))
 
   -- each node's value on the board is the one that is defined
-  pub value_exact : (n : ℕ) → n < length wires.parts → HasValue (given_by wires s) n (truth_at s n)
+  pub value_exact : (n : ℕ) → n < length wires.parts → HasValue (given_by wires.parts s) n (truth_at s n)
   value_exact n h = go (truth_at s n) refl
     where
-      go : (t : Truth) → truth_at s n ≡ t → HasValue (given_by wires s) n t
+      go : (t : Truth) → truth_at s n ≡ t → HasValue (given_by wires.parts s) n t
       go Yes e = yes_by (suc n) n (omega arith) h e
       go No e = no_by (suc n) n (omega arith) h e
       go Unset e = (λ has. let f = yes_on h has in cc, λ has. let f = no_on h has in cc)

@@ -40,5 +40,6 @@ pub record EntersNode (kind : Kind) (parts : List ℕ) (old new : Given) : Type 
   pub leaf : (m : ℕ) → m < length old.kinds → new.leaf m ≡ old.leaf m
   pub leaf_here : new.leaf (length old.kinds) ≡ Unset
   pub asserted : (m : ℕ) → new.asserted m ≡ old.asserted m
+  pub asserted_here : new.asserted (length old.kinds) ≡ false
   pub struck : (m i : ℕ) → m < length old.kinds → new.struck m i ≡ old.struck m i
   pub struck_here : (i : ℕ) → new.struck (length old.kinds) i ≡ false

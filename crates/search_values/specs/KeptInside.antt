@@ -11,7 +11,7 @@ use Rattle.search_values.specs.Kept.{Kept}
 -- the nodes, the board, and the boards to which the marks of the levels lead back
 abbrev pub kept_of : Inside → Kept
 kept_of inside = record {
-  wires = inside.wiring;
+  parts = inside.wiring.parts;
   shown = now inside.noted;
   saved = map (board_at inside.noted) inside.levels.items;
 }

@@ -28,7 +28,7 @@ impl Noted {
         requires leaf { kind_at (now self.old) n ≡ Leaf }
         requires unset { truth_at (now self.old) n ≡ Unset }
         ensures right { OnOk result (IsRight wiring.now (now self.new)) }
-        ensures sets { OnOk result (SetsLeaf n truth (given_by wiring.now (now self.old)) (given_by wiring.now (now self.new))) }
+        ensures sets { OnOk result (SetsLeaf n truth (given_by wiring.now.parts (now self.old)) (given_by wiring.now.parts (now self.new))) }
         ensures history { KeepsHistory self.old self.new }
     {
         let mut work = Vec::new(alloc);
@@ -48,7 +48,7 @@ impl Noted {
         requires right { IsRight wiring.now (now self.old) }
         requires stands { n < length (now self.old).kinds }
         ensures right { OnOk result (IsRight wiring.now (now self.new)) }
-        ensures asserts { OnOk result (Asserts n (given_by wiring.now (now self.old)) (given_by wiring.now (now self.new))) }
+        ensures asserts { OnOk result (Asserts n (given_by wiring.now.parts (now self.old)) (given_by wiring.now.parts (now self.new))) }
         ensures history { KeepsHistory self.old self.new }
     {
         let mut work = Vec::new(alloc);
@@ -64,7 +64,7 @@ impl Noted {
         requires stands { n < length (now self.old).kinds }
         requires place { i < length (places_at (now self.old) n) }
         ensures right { OnOk result (IsRight wiring.now (now self.new)) }
-        ensures strikes { OnOk result (Strikes n i (given_by wiring.now (now self.old)) (given_by wiring.now (now self.new))) }
+        ensures strikes { OnOk result (Strikes n i (given_by wiring.now.parts (now self.old)) (given_by wiring.now.parts (now self.new))) }
         ensures history { KeepsHistory self.old self.new }
     {
         let old = self.board.place(n, i);

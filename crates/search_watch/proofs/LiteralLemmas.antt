@@ -1,5 +1,5 @@
 -- One more end of a literal.
-use Rattle.std.proofs.Common.{◌≡◌, ◌<◌, ◌⊎◌, inl, inr, ℕ, List, [], ◌∷◌, ◌++◌, length, Contains, sym, ap, subst}
+use Rattle.std.proofs.Common.{◌≡◌, ◌<◌, ◌⊎◌, inl, inr, ℕ, List, [], ◌∷◌, ◌++◌, length, Contains, sym, ◌∙◌, ap, subst}
 use Rattle.std.proofs.lemmas.List.Elements.{Contains-push_cases}
 use Rattle.graph_meaning.specs.declared.done.Done.{Done}
 use Rattle.graph_meaning.specs.Standing.{terms_of, differs_of}
@@ -29,12 +29,20 @@ item_covers world ends s item end leader covers has leads_end = record { each = 
         subst (λ (i : ℕ). Contains (chain_at (with_item s leader item) other) i) same_item at
 
 -- the watch that took the item serves it too
-pub literal_serves : (standing : List Done) (ends : List (ℕ × ℕ)) (bound item term leader : ℕ) (old new : Watch) → Serves (service standing ends bound) old → item < bound
+pub literal_serves : (standing : List Done) (ends : List (ℕ × ℕ)) (bound item term leader : ℕ) (old new : Watch) → Serves (service standing ends bound) old → item < bound → term < length (terms_of standing)
     → IsLeader standing term leader → HasChain old.literals.chains leader
     → new.literals.chains ≡ with_item old.literals.chains leader item → new.differs ≡ old.differs → Serves (service standing (ends ++ (item, term) ∷ []) bound) new
-literal_serves standing ends bound item term leader old new of lt is has put same =
+literal_serves standing ends bound item term leader old new of lt term_stands is has put same =
     let s = old.literals.chains in
     record {
+      terms = record {
+        literals = ap (λ (c : Chained). length c.slots) put ∙ of.terms.literals;
+        differs = ap (λ (n : NotedChains). length n.chains.slots) same ∙ of.terms.differs;
+      };
+      ends_stand = λ one end on. elim (Contains-push_cases ends (item, term) (one, end) on) [
+        | inl old_end ↦ of.ends_stand one end old_end
+        | inr is_end ↦ subst (λ (pair : ℕ × ℕ). pair.1 < length (terms_of standing)) is_end term_stands
+      ];
       watched = record {
         literals_stand = λ other within. subst (λ (c : Chained). HasChain c other) (sym put) (stands s leader item has other (of.watched.literals_stand other within));
         differs_stand = subst (λ (n : NotedChains). (other : ℕ) → other < length (terms_of standing) → HasChain n.chains other) (sym same) of.watched.differs_stand;

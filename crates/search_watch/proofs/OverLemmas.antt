@@ -11,7 +11,7 @@ use Rattle.search_watch.specs.declared.watch.Watch.{Watch}
 use Rattle.search_watch.specs.declared.noted_chains.NotedChains.{NotedChains}
 use Rattle.search_watch.specs.Chains.{chain_at, slot_at}
 use Rattle.search_watch.specs.Covers.{ItemsBelow}
-use Rattle.search_watch.specs.Watched.{World, IsWatched, LeadsTerm, HaveChains, classes, with_difference}
+use Rattle.search_watch.specs.Watched.{World, IsWatched, LeadsTerm, HaveChains, HasTerms, classes, with_difference}
 use Rattle.search_watch.specs.Evaluate.{AreDifferChains}
 use Rattle.search_watch.specs.Service.{Service, Serves, service, world_of}
 use Rattle.search_watch.specs.Follow.{world_over, ServesOver}
@@ -29,14 +29,17 @@ leader_stands standing term leader lawful is = (derived_terms standing lawful.wh
 pub over_more : (of : Service) (differs : List (ℕ × ℕ)) (k : ℕ) (old new : Watch) (left right : ℕ) → k < length differs → ServesOver of (take k differs) old
     → IsLeader of.standing (slice_index_or differs k (0, 0)).0 left → IsLeader of.standing (slice_index_or differs k (0, 0)).1 right
     → ((world : World) (unions : List Union) (a b : ℕ) → IsWatched world unions old → LeadsTerm world unions left a → LeadsTerm world unions right b → IsWatched (with_difference world k a b) unions new)
+    → ((count : ℕ) → HasTerms count old → HasTerms count new)
     → new.literals ≡ old.literals → ((count : ℕ) → k < count → ItemsBelow count old.differs.chains → ItemsBelow count new.differs.chains)
     → ServesOver of (take (k + 1) differs) new
-over_more of differs k old new left right lt over of_left of_right adds same below =
+over_more of differs k old new left right lt over of_left of_right adds terms same below =
     let a = (slice_index_or differs k (0, 0)).0 in
     let b = (slice_index_or differs k (0, 0)).1 in
     let len = length-take-le k differs (omega arith) in
     let len' = length-take-le (k + 1) differs (omega arith) in
     record {
+      terms = terms (length (terms_of of.standing)) over.terms;
+      ends_stand = over.ends_stand;
       watched = subst (λ (ends : List (ℕ × ℕ)). IsWatched (record { standing = of.standing; terms = length (terms_of of.standing); literal_ends = of.ends; differ_ends = ends }) [] new) (sym (ends_more differs k lt))
           (adds (world_over of (take k differs)) [] a b over.watched (leads of.standing left a of_left) (leads of.standing right b of_right));
       literals = subst (λ (n : NotedChains). ItemsBelow of.bound n.chains) (sym same) over.literals;
@@ -51,21 +54,23 @@ over_all of differs k watch past over = subst (λ (ds : List (ℕ × ℕ)). Serv
 pub over_serves : (of : Service) (differs : List (ℕ × ℕ)) (watch : Watch) → differs ≡ differs_of of.standing → ServesOver of differs watch → Serves of watch
 over_serves of differs watch is over =
     let over' = subst (λ (ds : List (ℕ × ℕ)). ServesOver of ds watch) is over in
-    record { watched = over'.watched; literals = over'.literals; differs = over'.differs }
+    record { terms = over'.terms; ends_stand = over'.ends_stand; watched = over'.watched; literals = over'.literals; differs = over'.differs }
 
 take_none : (differs : List (ℕ × ℕ)) → [] ≡ take 0 differs
 take_none [] = refl
 take_none (x ∷ xs) = refl
 
 -- a watch with empty chains serves without literals and differences
-pub over_none : (standing : List Done) (bound : ℕ) (differs : List (ℕ × ℕ)) (watch : Watch)
+pub over_none : (standing : List Done) (bound : ℕ) (differs : List (ℕ × ℕ)) (watch : Watch) → HasTerms (length (terms_of standing)) watch
     → HaveChains (length (terms_of standing)) watch.literals.chains → ItemsBelow 0 watch.literals.chains
     → HaveChains (length (terms_of standing)) watch.differs.chains → ItemsBelow 0 watch.differs.chains
     → ServesOver (service standing [] bound) (take 0 differs) watch
-over_none standing bound differs watch have none have' none' =
+over_none standing bound differs watch terms have none have' none' =
     let of = service standing [] bound in
     let same = classes (world_over of []) [] in
     let over : ServesOver of [] watch = record {
+      terms = terms;
+      ends_stand = λ item term on. absurd (omega (arith, on.1));
       watched = record {
         literals_stand = have;
         differs_stand = have';

@@ -89,10 +89,11 @@ looks_step world unions k literals differs literals' differs' more more' before 
 -- ---- items stay below their bound
 
 pub items_none : (watch : Watch) → KeepsItems watch watch
-items_none watch = record { literals = λ count below. below; differs = λ count below. below }
+items_none watch = record { terms = λ count has. has; literals = λ count below. below; differs = λ count below. below }
 
 pub items_trans : (a b c : Watch) → KeepsItems a b → KeepsItems b c → KeepsItems a c
 items_trans a b c first second = record {
+  terms = λ count has. second.terms count (first.terms count has);
   literals = λ count below. second.literals count (first.literals count below);
   differs = λ count below. second.differs count (first.differs count below);
 }
@@ -100,6 +101,10 @@ items_trans a b c first second = record {
 pub items_joined : (old new : Watch) (moved kept : ℕ) → HasChain old.literals.chains kept → HasChain old.differs.chains kept
     → new.literals.chains ≡ chained old.literals.chains moved kept → new.differs.chains ≡ chained old.differs.chains moved kept → KeepsItems old new
 items_joined old new moved kept has has' is is' = record {
+  terms = λ count terms. record {
+    literals = ap (λ (s : Chained). length s.slots) is ∙ length-set old.literals.chains.slots (min moved kept) (slot_at old.literals.chains kept) ∙ terms.literals;
+    differs = ap (λ (s : Chained). length s.slots) is' ∙ length-set old.differs.chains.slots (min moved kept) (slot_at old.differs.chains kept) ∙ terms.differs;
+  };
   literals = λ count below. subst (λ (s : Chained). ItemsBelow count s) (sym is) (below_join old.literals.chains moved kept count has.slot_stands below);
   differs = λ count below. subst (λ (s : Chained). ItemsBelow count s) (sym is') (below_join old.differs.chains moved kept count has'.slot_stands below);
 }

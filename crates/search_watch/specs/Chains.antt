@@ -1,6 +1,6 @@
 -- For each leader a list of numbers.
-use Rattle.std.specs.Prelude.{◌≡◌, ℕ, ◌-◌, ◌<◌, ◌^◌, min, List, [], ◌∷◌, ◌++◌, length, take}
-use Rattle.std.specs.Prelude.{slice_index, slice_index_or, slice_set}
+use Rattle.std.specs.Prelude.{◌≡◌, ℕ, ◌+◌, ◌-◌, ◌<◌, ◌≤◌, ◌^◌, min, List, [], ◌∷◌, ◌++◌, length, take}
+use Rattle.std.specs.Prelude.{slice_index, slice_index_or, slice_set, replicate}
 use Rattle.search_watch.specs.declared.link.Link.{Link}
 use Rattle.search_watch.specs.declared.link.Link.TheVariants.{Added, Grown, Led}
 
@@ -28,6 +28,14 @@ no_chains = record { slots = []; lists = [] }
 -- one more term, which leads an empty list of its own
 abbrev pub with_term : Chained → Chained
 with_term chains = record { slots = chains.slots ++ length chains.slots ∷ []; lists = chains.lists ++ [] ∷ [] }
+
+-- so many terms more, each of which leads an empty list of its own; there is a list for each term
+pub record AddsTerms (count : ℕ) (old new : Chained) : Type 0 where
+  pub terms : length new.slots ≡ length old.slots + count
+  pub aligned : length new.lists ≡ length new.slots
+  pub lists : new.lists ≡ old.lists ++ replicate count []
+  pub stay : (term : ℕ) → term < length old.slots → slot_at new term ≡ slot_at old term
+  pub own : (term : ℕ) → length old.slots ≤ term → term < length new.slots → slot_at new term ≡ term
 
 -- a slot and a list for each term
 pub record AreChains (chains : Chained) : Type 0 where

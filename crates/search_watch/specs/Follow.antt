@@ -6,9 +6,9 @@ use Rattle.graph_meaning.specs.Standing.{terms_of, differs_of}
 use Rattle.graph_meaning.specs.Unions.{ListsUnions}
 use Rattle.search_watch.specs.declared.watch.Watch.{Watch}
 use Rattle.search_watch.specs.Covers.{ItemsBelow}
-use Rattle.search_watch.specs.Watched.{World, IsWatched}
+use Rattle.search_watch.specs.Watched.{World, IsWatched, HasTerms}
 use Rattle.search_watch.specs.Found.{IsBetween}
-use Rattle.search_watch.specs.Service.{Service, Serves, HasClash, ends_from}
+use Rattle.search_watch.specs.Service.{Service, Serves, EndsStand, HasClash, ends_from}
 
 -- the watch serves a list without a clash; over the same terms these unions make the classes that stand now, and the
 -- first so many differences are those that stood
@@ -31,6 +31,8 @@ world_over of differs = record {
 
 -- the watch serves the same literals, where these are the differences
 pub record ServesOver (of : Service) (over : List (ℕ × ℕ)) (watch : Watch) : Type 0 where
+  pub terms : HasTerms (length (terms_of of.standing)) watch
+  pub ends_stand : EndsStand (length (terms_of of.standing)) of.ends
   pub watched : IsWatched (world_over of over) [] watch
   pub literals : ItemsBelow of.bound watch.literals.chains
   pub differs : ItemsBelow (length over) watch.differs.chains

@@ -1,5 +1,5 @@
 -- What a watch serves: a graph and the literals of its terms.
-use Rattle.std.specs.Prelude.{◌≡◌, ℕ, ◌+◌, ◌⊎◌, List, [], ◌∷◌, length, Contains}
+use Rattle.std.specs.Prelude.{◌≡◌, ℕ, ◌+◌, ◌<◌, ◌⊎◌, List, [], ◌∷◌, length, Contains}
 use Rattle.graph_meaning.specs.declared.done.Done.{Done}
 use Rattle.graph_meaning.specs.Same.{Same}
 use Rattle.graph_meaning.specs.Standing.{terms_of, differs_of}
@@ -8,7 +8,7 @@ use Rattle.formula_truth.specs.declared.truth.Truth.TheVariants.{Unset}
 use Rattle.search_watch.specs.declared.watch.Watch.{Watch}
 use Rattle.search_watch.specs.Literals.{IsEquationValue, IsAtomValue, Clashes}
 use Rattle.search_watch.specs.Covers.{ItemsBelow}
-use Rattle.search_watch.specs.Watched.{World, IsWatched}
+use Rattle.search_watch.specs.Watched.{World, IsWatched, HasTerms}
 
 -- what stands, which terms end literals, as pairs of a literal's number and a term, and a bound of these numbers
 pub record Service : Type 0 where
@@ -38,8 +38,15 @@ world_of of = record {
   differ_ends = ends_from 0 (differs_of of.standing);
 }
 
--- the watch has, for each class, the literals and the differences that its terms end, and nothing but such numbers
+-- each end of a literal is a term
+abbrev pub EndsStand : ℕ → List (ℕ × ℕ) → Type 0
+EndsStand terms ends = (item term : ℕ) → Contains ends (item, term) → term < terms
+
+-- the watch has the terms that stand, and for each class the literals and the differences that its terms end, and
+-- nothing but such numbers
 pub record Serves (of : Service) (watch : Watch) : Type 0 where
+  pub terms : HasTerms (length (terms_of of.standing)) watch
+  pub ends_stand : EndsStand (length (terms_of of.standing)) of.ends
   pub watched : IsWatched (world_of of) [] watch
   pub literals : ItemsBelow of.bound watch.literals.chains
   pub differs : ItemsBelow (length (differs_of of.standing)) watch.differs.chains

@@ -1,5 +1,5 @@
 -- Literals and differences by the classes of their ends.
-use Rattle.std.specs.Prelude.{◌≡◌, ℕ, ◌<◌, Bool, List, [], ◌∷◌, ◌++◌, take, Some, slice_get, Contains}
+use Rattle.std.specs.Prelude.{◌≡◌, ℕ, ◌<◌, Bool, List, [], ◌∷◌, ◌++◌, length, take, Some, slice_get, Contains}
 use Rattle.graph_meaning.specs.declared.union.Union.{Union}
 use Rattle.graph_meaning.specs.declared.done.Done.{Done}
 use Rattle.graph_meaning.specs.Unions.{Generated, IsLeast, Leads}
@@ -39,8 +39,14 @@ pub record IsWatched (world : World) (unions : List Union) (watch : Watch) : Typ
   pub literals : Covers (classes world unions) world.literal_ends watch.literals.chains
   pub differs : Covers (classes world unions) world.differ_ends watch.differs.chains
 
--- items are below a bound where all were before
+-- the watch has so many terms
+pub record HasTerms (count : ℕ) (watch : Watch) : Type 0 where
+  pub literals : length watch.literals.chains.slots ≡ count
+  pub differs : length watch.differs.chains.slots ≡ count
+
+-- items are below a bound where all were before, and there are as many terms
 pub record KeepsItems (old new : Watch) : Type 0 where
+  pub terms : (count : ℕ) → HasTerms count old → HasTerms count new
   pub literals : (count : ℕ) → ItemsBelow count old.literals.chains → ItemsBelow count new.literals.chains
   pub differs : (count : ℕ) → ItemsBelow count old.differs.chains → ItemsBelow count new.differs.chains
 

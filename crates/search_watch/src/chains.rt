@@ -1,6 +1,6 @@
 //! For each class the numbers of what its terms end.
 ghost use Rattle.std.specs.Prelude.{◌≡◌, ℕ, ◌<◌, ◌≤◌, ◌↔◌, length, slice_index, slice_set, take, ◌⊎◌, [], ◌∷◌, ◌++◌, IsTrue, OnOk, OnErr, IfOk};
-ghost use Rattle.search_watch.specs.Chains.{Chained, chain_at, slot_at, list_at, appended, chained, no_chains, with_term, without_term, with_list, with_slot, grown, HasChain};
+ghost use Rattle.search_watch.specs.Chains.{Chained, AreChains, chain_at, slot_at, list_at, appended, chained, no_chains, with_term, without_term, with_list, with_slot, grown, HasChain};
 
 use crate::link::Link;
 use graph_trail::Undoable;
@@ -115,6 +115,15 @@ impl Chains {
     {
         let _slot = self.slots.pop();
         let _list = self.lists.pop();
+    }
+
+    /// How many terms there are.
+    pub fn terms(&self) -> u32
+        ensures terms { result ≡ length self.now.slots }
+        ensures aligned { AreChains self.now }
+    {
+        let _lists = &self.lists;
+        self.slots.len() as u32
     }
 
     /// Whether the leader has a chain.

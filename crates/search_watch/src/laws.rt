@@ -2,6 +2,7 @@
 ghost use Rattle.search_watch.specs.Back.{GoesBackFurther};
 ghost use Rattle.search_watch.specs.Covers.{JoinIsUndone, JoinKeepsCovering, JoinKeepsItems};
 ghost use Rattle.search_watch.specs.Serves.{CoveringServes};
+ghost use Rattle.search_watch.specs.Grown.{TermsKeepClasses, AddsAreTerms};
 ghost use Rattle.search_watch.specs.Found.{FoundClashes, FoundSuffices, UnionsAreLed};
 ghost use Rattle.search_watch.specs.Laws.{ChangesAreLookedAt, DifferencesAreLookedAt, ClashesAreMet, ValuesStay};
 
@@ -63,4 +64,11 @@ pub fn found_clashes()
 /// Joined chains have the items that they had.
 pub fn join_keeps_items()
     ensures { JoinKeepsItems }
+{}
+
+/// Where only terms came, terms that stood are equal just where they were before; and only terms come where operations add
+/// rows.
+pub fn terms_law()
+    ensures same { TermsKeepClasses }
+    ensures adds { AddsAreTerms }
 {}

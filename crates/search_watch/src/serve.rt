@@ -1,11 +1,14 @@
 //! A watch that serves a graph: it is made of one, it takes literals, and it follows the graph.
-ghost use Rattle.std.specs.Prelude.{◌≡◌, ℕ, ◌<◌, ◌++◌, ◌∷◌, ◌↔◌, false, IsTrue, List, [], length, take, All, IfOk, OnOk};
+ghost use Rattle.std.specs.Prelude.{◌≡◌, ℕ, ◌-◌, ◌<◌, ◌++◌, ◌∷◌, ◌↔◌, false, IsTrue, List, [], length, take, All, IfOk, OnOk, OnErr};
+ghost use Rattle.graph_meaning.specs.declared.done.Done.{Done};
 ghost use Rattle.graph_meaning.specs.Standing.{terms_of, differs_of};
 ghost use Rattle.graph_meaning.specs.Same.{Same};
 ghost use Rattle.search_watch.specs.Literals.{IsEquationValue};
 ghost use Rattle.search_watch.specs.Back.{CanGoBack, no_watch};
+ghost use Rattle.search_watch.specs.Chains.{AddsTerms};
 ghost use Rattle.search_watch.specs.Covers.{ItemsBelow};
-ghost use Rattle.search_watch.specs.Watched.{HaveChains};
+ghost use Rattle.search_watch.specs.Grown.{OnlyTermsCame};
+ghost use Rattle.search_watch.specs.Watched.{HaveChains, HasTerms};
 ghost use Rattle.search_watch.specs.Service.{Service, Serves, ServesNow, HasClash, FindsChanges, service, where_stands};
 ghost use Rattle.search_watch.specs.Follow.{IsBehind, ServesOver};
 
@@ -22,6 +25,7 @@ impl Watch {
         requires { self.old ≡ no_watch }
         ensures literals { OnOk result (HaveChains count self.new.literals.chains × ItemsBelow 0 self.new.literals.chains) }
         ensures differs { OnOk result (HaveChains count self.new.differs.chains × ItemsBelow 0 self.new.differs.chains) }
+        ensures terms { OnOk result (HasTerms count self.new) }
     {
         for _k in 0..count {
             self.add_term(alloc)?;
@@ -70,7 +74,7 @@ impl Watch {
         Ok(watch)
     }
 
-    /// One more end of a literal, which has this number. A refusal is want of memory or of room.
+    /// One more end of a literal, which has this number. A refusal is want of memory or of room, and a note may be left then.
     pub fn add_literal<G: ClassGraph>(
         &mut self,
         graph: &G,
@@ -79,12 +83,48 @@ impl Watch {
     ) -> Result<(), AllocError>
         requires serves { ServesNow (G.standing graph.now) self.old }
         requires term { term < length (terms_of (G.standing graph.now)) }
-        ensures { OnOk result ((ends : List (ℕ × ℕ)) (bound : ℕ) → Serves (service (G.standing graph.now) ends bound) self.old → item < bound → Serves (service (G.standing graph.now) (ends ++ (item, term) ∷ []) bound) self.new) }
+        ensures serves { OnOk result ((ends : List (ℕ × ℕ)) (bound : ℕ) → Serves (service (G.standing graph.now) ends bound) self.old → item < bound → Serves (service (G.standing graph.now) (ends ++ (item, term) ∷ []) bound) self.new) }
+        ensures back { CanGoBack self.old self.new }
     {
         let _terms = graph.len();
         let leader = graph.leader(term);
         self.literals.put(leader, item)?;
         Ok(())
+    }
+
+    /// Gives the chains as many terms as this. A refusal is want of memory or of room, and a part may have been done then.
+    fn try_terms(&mut self, alloc: Global, count: u32) -> Result<(), AllocError>
+        ensures literals { OnOk result (AddsTerms (count - length self.old.literals.chains.slots) self.old.literals.chains self.new.literals.chains) }
+        ensures differs { OnOk result (AddsTerms (count - length self.old.literals.chains.slots) self.old.differs.chains self.new.differs.chains) }
+        ensures back { CanGoBack self.old self.new }
+    {
+        let terms = self.literals.chains.terms();
+        let _aligned = self.differs.chains.terms();
+        for _k in terms..count {
+            self.add_term(alloc)?;
+        }
+        Ok(())
+    }
+
+    /// Follows a graph to which only terms came: each new term ends no literal and no difference. A refusal is want of
+    /// memory or of room, and the watch is as before then.
+    pub fn follow_terms<G: ClassGraph>(
+        &mut self,
+        alloc: Global,
+        graph: &G,
+    ) -> Result<(), AllocError>
+        ensures serves { OnOk result ((before : List Done) (ends : List (ℕ × ℕ)) (bound : ℕ) → OnlyTermsCame before (G.standing graph.now) → Serves (service before ends bound) self.old → Serves (service (G.standing graph.now) ends bound) self.new) }
+        ensures err { OnErr result (self.new ≡ self.old) }
+        ensures back { CanGoBack self.old self.new }
+    {
+        let mark = self.mark();
+        match self.try_terms(alloc, graph.len()) {
+            Ok(()) => Ok(()),
+            Err(fault) => {
+                self.back_to(mark);
+                Err(fault)
+            }
+        }
     }
 
     /// Follows the graph over these unions and over the differences, which the pairs are, from the earlier ones on. It puts

@@ -18,5 +18,5 @@ pub returns-in-Err-clause-err : goal.returns-in-Err-clause-err
 returns-in-Err-clause-err c =
     let back = went_back c.self.inside.noted c.try_assert.new.self c.back_to.new.self c.mark-mark.result c.in-Err.ensures.history c.mark-mark.ensures c.back_to.ensures.gives c.back_to.ensures.kept c.back_to.ensures.at in
     let saved = saved_stay c.self.inside.wiring c.self.inside.noted c.back_to.new.self c.self.inside.levels.items c.self.invariant.levels back.history in
-    ap (λ (s : Shown). record { wires = c.self.inside.wiring; shown = s; saved = map (board_at c.back_to.new.self) c.self.inside.levels.items }) back.same
-    ∙ ap (λ (ss : List Shown). record { wires = c.self.inside.wiring; shown = now c.self.inside.noted; saved = ss }) saved ∙ c.self.view_is
+    ap (λ (s : Shown). record { parts = c.self.inside.wiring.parts; shown = s; saved = map (board_at c.back_to.new.self) c.self.inside.levels.items }) back.same
+    ∙ ap (λ (ss : List Shown). record { parts = c.self.inside.wiring.parts; shown = now c.self.inside.noted; saved = ss }) saved ∙ c.self.view_is

@@ -19,5 +19,5 @@ returns-in-Some c =
     let P : List ℕ → Type 0 = λ levels. AreLevels c.self.inside.wiring c.self.inside.noted levels in
     let levels = subst P c.in-Some.ensures.items c.self.invariant.levels in
     saved_pop c.self.inside.wiring c.self.inside.noted c.back_to.new.self c.pop.new.self.items c.in-Some.mark levels c.back_to.ensures.at c.back_to.ensures.gives
-    ∙ ap (λ (ls : List ℕ). popped (record { wires = c.self.inside.wiring; shown = now c.self.inside.noted; saved = map (board_at c.self.inside.noted) ls })) (sym c.in-Some.ensures.items)
+    ∙ ap (λ (ls : List ℕ). popped (record { parts = c.self.inside.wiring.parts; shown = now c.self.inside.noted; saved = map (board_at c.self.inside.noted) ls })) (sym c.in-Some.ensures.items)
     ∙ ap popped c.self.view_is

@@ -11,7 +11,7 @@ returns c =
     let right = c.self.invariant.right in
     let inside = kept_of c.self.inside in
     let lt : c.args.n < length inside.shown.kinds = subst (λ (k : Kept). c.args.n < length k.shown.kinds) (sym c.self.view_is) c.requires in
-    let exact = value_exact c.joining_law.ensures inside.wires inside.shown right.wired right.are right.settled c.args.n (omega (arith, right.are.nodes)) in
+    let exact = value_exact c.joining_law.ensures c.self.inside.wiring inside.shown right.wired right.are right.settled c.args.n (omega (arith, right.are.nodes)) in
     let T : Truth → Type 0 = λ t. HasValue (given_of inside) c.args.n t in
     let K : Kept → Type 0 = λ k. HasValue (given_of k) c.args.n c.truth.result in
     subst K c.self.view_is (subst T (sym c.truth.ensures) exact)

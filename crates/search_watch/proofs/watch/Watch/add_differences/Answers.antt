@@ -1,5 +1,7 @@
-use Rattle.std.proofs.Common.{length, arith}
+use Rattle.std.proofs.Common.{length, ap, ◌∙◌, arith}
 use Rattle.graph_meaning.specs.Standing.{terms_of, differs_of}
+use Rattle.search_watch.specs.declared.noted_chains.NotedChains.{NotedChains}
+use Rattle.search_watch.specs.Chains.{Chained}
 use Rattle.search_watch.specs.Service.{service}
 use Rattle.search_watch.proofs.NotedLemmas.{back_none, back_trans}
 use Rattle.search_watch.proofs.EndsLemmas.{are_differs}
@@ -32,7 +34,9 @@ add_difference-requires-clause-right g c =
 pub loop-d-preserved : goal.loop-d-preserved
 loop-d-preserved g c = record {
   serves = λ ends bound over. over_more (service (g.G.ClassGraph.standing c.args.graph.now) ends bound) c.args.differs.now c.loop-d.d c.loop-d.self c.add_difference.new.self c.leader-left.result c.leader-right.result (omega arith)
-      (c.loop-d.invariant.serves ends bound over) c.leader-left.ensures c.leader-right.ensures c.in_ok-add_difference.ensures.watched c.in_ok-add_difference.ensures.literals c.in_ok-add_difference.ensures.items;
+      (c.loop-d.invariant.serves ends bound over) c.leader-left.ensures c.leader-right.ensures c.in_ok-add_difference.ensures.watched
+      (λ count terms. record { literals = ap (λ (n : NotedChains). length n.chains.slots) c.in_ok-add_difference.ensures.literals ∙ terms.literals; differs = ap (λ (s : Chained). length s.slots) c.in_ok-add_difference.ensures.differs ∙ terms.differs })
+      c.in_ok-add_difference.ensures.literals c.in_ok-add_difference.ensures.items;
   back = back_trans c.args.self.now c.loop-d.self c.add_difference.new.self c.loop-d.invariant.back c.in_ok-add_difference.ensures.back;
 }
 

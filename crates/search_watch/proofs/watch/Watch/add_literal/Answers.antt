@@ -7,8 +7,8 @@ pub put-requires : goal.put-requires
 put-requires g c =
     c.requires.serves.2.watched.literals_stand c.leader-leader.result (leader_stands (g.G.ClassGraph.standing c.args.graph.now) c.args.term c.leader-leader.result c.len-terms.ensures.lawful c.leader-leader.ensures)
 
-pub returns : goal.returns
-returns g c = λ ends bound of lt.
+pub returns-clause-serves : goal.returns-clause-serves
+returns-clause-serves g c = λ ends bound of lt.
     let standing = g.G.ClassGraph.standing c.args.graph.now in
-    literal_serves standing ends bound c.args.item c.args.term c.leader-leader.result c.args.self.now (record { literals = c.put.new.self; differs = c.args.self.now.differs }) of lt c.leader-leader.ensures
+    literal_serves standing ends bound c.args.item c.args.term c.leader-leader.result c.args.self.now (record { literals = c.put.new.self; differs = c.args.self.now.differs }) of lt c.requires.term c.leader-leader.ensures
     (of.watched.literals_stand c.leader-leader.result (leader_stands standing c.args.term c.leader-leader.result c.len-terms.ensures.lawful c.leader-leader.ensures)) c.in_ok-put.ensures.ok refl

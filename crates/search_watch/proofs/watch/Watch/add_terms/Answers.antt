@@ -20,3 +20,6 @@ returns-clause-literals c = (λ term lt. c.loop-k.invariant.literals.have term (
 
 pub returns-clause-differs : goal.returns-clause-differs
 returns-clause-differs c = (λ term lt. c.loop-k.invariant.differs.have term (omega arith), c.loop-k.invariant.differs.none)
+
+pub returns-clause-terms : goal.returns-clause-terms
+returns-clause-terms c = record { literals = omega (arith, c.loop-k.invariant.literals.slots); differs = omega (arith, c.loop-k.invariant.differs.slots) }
