@@ -23,7 +23,6 @@ use Rattle.formula_assert.specs.StackInside.{IsStackOf, assertions_with}
 use Rattle.formula_assert.proofs.Growth.{holds_same}
 use Rattle.formula_assert.proofs.StackLemmas.{refused_stack, refused_assert, refused_keeps}
 use Rattle.formula_assert.proofs.AssertLemmas.{entered_root, asserted_stack, asserted_keeps}
-use Rattle.formula_assert.proofs.LevelLemmas.{over_levels, both_levels}
 
 -- the body of a forall is a formula over as many terms as it has variables
 body_over : (table : Formulas) (forall : ℕ) (tuple : List ℕ) → IsFormulaTable table →

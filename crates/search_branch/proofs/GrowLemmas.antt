@@ -4,11 +4,17 @@ use Rattle.std.proofs.Common.{◌++◌, length, map, take, drop, slice_get, Some
 use Rattle.std.proofs.Common.{append_assoc, arith}
 use Rattle.std.proofs.lemmas.Bool.{cases_lt}
 use Rattle.std.proofs.lemmas.Option.{slice_get_within}
-use Rattle.std.proofs.lemmas.List.{length-map, map-append}
-use Rattle.std.proofs.lemmas.List.Elements.{All-head, All-tail, All-contains}
+use Rattle.std.specs.List.{filter_map}
+use Rattle.std.proofs.lemmas.List.{length-map, map-append, length-append}
+use Rattle.std.proofs.lemmas.List.Elements.{All-head, All-tail, All-contains, Contains-append_left, filter_map-append}
+use Rattle.graph_terms.specs.declared.term_row.TermRow.{TermRow}
+use Rattle.graph_terms.specs.Terms.{term_row, first_rows, HasRow}
 use Rattle.graph_meaning.specs.declared.done.Done.{Done}
-use Rattle.graph_meaning.specs.Same.{Same}
-use Rattle.graph_meaning.specs.Standing.{terms_of, differs_of}
+use Rattle.graph_meaning.specs.Lawful.{IsLawful}
+use Rattle.graph_meaning.specs.Same.{Same, Derives, DerivesEach, same_term, turned, joined, merged, congruent, none, more}
+use Rattle.graph_meaning.specs.Standing.{terms_of, merges_of, differs_of, added_row, merged_ends, different_ends}
+use Rattle.graph_meaning.specs.State.{GraphState}
+use Rattle.match_graph.specs.GraphTerms.{with_terms}
 use Rattle.formula_table.specs.declared.node.Node.{Node}
 use Rattle.formula_table.specs.declared.node.Node.TheVariants.{Equal, Atom, And, Or, Forall}
 use Rattle.formula_table.specs.Formulas.{Formulas, IsFormulaTable}
@@ -18,11 +24,14 @@ use Rattle.formula_truth.specs.declared.truth.Truth.TheVariants.{Yes, No, Unset}
 use Rattle.formula_value.specs.ByParts.{turn_of}
 use Rattle.formula_value.specs.Holds.{HasNode}
 use Rattle.formula_assert.specs.Assertions.{Assertions, held_of}
+use Rattle.formula_assert.specs.AssertInstance.{EntersBody}
+use Rattle.formula_assert.specs.InLevel.{KeepsLevels}
+use Rattle.formula_assert.specs.Stands.{AreAssertions}
 use Rattle.search_values.specs.Given.{Given}
 use Rattle.search_values.specs.Kept.{given_of}
 use Rattle.search_watch.specs.declared.watch.Watch.{Watch}
 use Rattle.search_watch.specs.Back.{CanGoBack}
-use Rattle.search_watch.specs.Grown.{OnlyTermsCame, TermsKeepClasses}
+use Rattle.search_watch.specs.Grown.{OnlyTermsCame, TermsKeepClasses, AddsAreTerms}
 use Rattle.search_watch.specs.Literals.{AreKeptApart, IsEquationValue, IsAtomValue}
 use Rattle.search_watch.specs.Service.{Serves, HasClash, service}
 use Rattle.search_branch.specs.declared.branch_values.BranchValues.{BranchValues}
@@ -119,11 +128,11 @@ module _ (before now : List Done) (came : OnlyTermsCame before now) (keeps : Ter
 
 module _ {X : Type 0} where
   -- an element that stands before the later ones stood
-  pub stood_before : (xs more : List X) (n : ℕ) (x : X) → n < length xs → slice_get (xs ++ more) n ≡ Some x →
+  pub stood_before : (xs ys : List X) (n : ℕ) (x : X) → n < length xs → slice_get (xs ++ ys) n ≡ Some x →
       slice_get xs n ≡ Some x
-  stood_before [] more n x less at = absurd (omega (arith, less))
-  stood_before (y ∷ xs) more zero x less at = at
-  stood_before (y ∷ xs) more (suc n) x less at = stood_before xs more n x (omega (arith, less)) at
+  stood_before [] ys n x less at = absurd (omega (arith, less))
+  stood_before (y ∷ xs) ys zero x less at = at
+  stood_before (y ∷ xs) ys (suc n) x less at = stood_before xs ys n x (omega (arith, less)) at
 
 -- ---- the values
 
@@ -315,3 +324,94 @@ level_grows nodes first before old new mid within parts behind keeps over saved 
     take_drop zero xs = refl
     take_drop (suc n) [] = refl
     take_drop (suc n) (x ∷ xs) = ap (λ (ys : List Node). x ∷ ys) (take_drop n xs)
+
+-- ---- an instance that was entered
+
+-- of what was entered terms and nodes came, and nothing else
+pub has_grown : (was now : Assertions) (forall root : ℕ) (tuple : List ℕ) (first : ℕ) → AddsAreTerms →
+    EntersBody forall tuple was now root → KeepsLevels was now → AreAssertions was → AreAssertions now →
+    first ≡ length was.formulas.nodes → HasGrown was now first
+has_grown was now forall root tuple first adds enters keeps was_right is_right many =
+    let grew = enters.enters.rows_grow.grew in
+    let added = enters.enters.rows_grow.added in
+    let lawful : IsLawful (with_terms was.graph added).standing =
+    subst (λ (graph : GraphState). IsLawful graph.standing) grew is_right.lawful in
+    record {
+      terms = subst (λ (graph : GraphState). OnlyTermsCame was.graph.standing graph.standing) (sym grew)
+          (adds was.graph added was_right.lawful lawful);
+      stood = was_right.formulas.terms;
+      nodes = keeps.formulas_grow.more_nodes;
+      nodes_are = keeps.formulas_grow.nodes_are;
+      many = sym many;
+      asserted_are = enters.asserted_is;
+    }
+
+-- no nodes went
+pub not_fewer : (was now : Assertions) (first : ℕ) → KeepsLevels was now → first ≡ length was.formulas.nodes →
+    first ≤ length now.formulas.nodes
+not_fewer was now first keeps many =
+    let all = ap length keeps.formulas_grow.nodes_are
+    ∙ length-append was.formulas.nodes keeps.formulas_grow.more_nodes in
+    omega (arith, all, many)
+
+-- ---- a clash stays
+
+module _ (rows later : List TermRow) (merges further : List (ℕ × ℕ)) where
+  row_stays : (term : ℕ) (row : TermRow) → HasRow rows term row → HasRow (rows ++ later) term row
+  row_stays term row has = longer rows term has
+    where
+      longer : (rows : List TermRow) (term : ℕ) → slice_get rows term ≡ Some row →
+          slice_get (rows ++ later) term ≡ Some row
+      longer [] term at = cc
+      longer (r ∷ rows) zero at = at
+      longer (r ∷ rows) (suc term) at = longer rows term at
+
+  mutual
+    derives_still : {s t : ℕ} → Derives rows merges s t → Derives (rows ++ later) (merges ++ further) s t
+    derives_still (same_term within) = same_term (omega (arith, within, length-append rows later))
+    derives_still (turned same) = turned (derives_still same)
+    derives_still (joined one other) = joined (derives_still one) (derives_still other)
+    derives_still (merged {s} {t} among) = merged (Contains-append_left merges further (s, t) among)
+    derives_still (congruent {s} {t} {symbol} {ss} {ts} left right each) =
+        congruent (row_stays s (term_row symbol ss) left) (row_stays t (term_row symbol ts) right) (each_still each)
+
+    each_still : {ss ts : List ℕ} → DerivesEach rows merges ss ts →
+        DerivesEach (rows ++ later) (merges ++ further) ss ts
+    each_still none = none
+    each_still (more one rest) = more (derives_still one) (each_still rest)
+
+module _ (standing later : List Done) where
+  terms_more : terms_of (standing ++ later) ≡ terms_of standing ++ filter_map added_row later
+  terms_more = ap (λ (rows : List TermRow). first_rows ++ rows) (filter_map-append added_row standing later)
+      ∙ sym (append_assoc first_rows (filter_map added_row standing) (filter_map added_row later))
+
+  same_still : (s t : ℕ) → Same standing s t → Same (standing ++ later) s t
+  same_still s t same =
+      subst (λ (rows : List TermRow). Derives rows (merges_of (standing ++ later)) s t) (sym terms_more)
+      (subst (λ (merges : List (ℕ × ℕ)). Derives (terms_of standing ++ filter_map added_row later) merges s t)
+      (sym (filter_map-append merged_ends standing later))
+      (derives_still (terms_of standing) (filter_map added_row later) (merges_of standing)
+      (filter_map merged_ends later) same))
+
+  clash_still : HasClash standing → HasClash (standing ++ later)
+  clash_still (inl same) = inl (same_still 0 1 same)
+  clash_still (inr (a, b, among, same)) = inr (
+    a,
+    b,
+    subst (λ (ds : List (ℕ × ℕ)). Contains ds (a, b)) (sym (filter_map-append different_ends standing later))
+        (Contains-append_left (differs_of standing) (filter_map different_ends later) (a, b) among),
+    same_still a b same,
+  )
+
+-- values that know of a clash are right for more that stands
+pub lost_still : (was now : Assertions) (struck : List (ℕ × ℕ)) (values : BranchValues) →
+    (later : List Done) × (now.graph.standing ≡ was.graph.standing ++ later) → values.lost ≡ true →
+    IsFormulaTable now.formulas → AreValuesOf was struck values → AreValuesOf now struck values
+lost_still was now struck values stands lost table right = record {
+  table = table;
+  lost = (
+    λ on. subst HasClash (sym stands.1) (clash_still was.graph.standing stands.0 (right.lost.0 on)),
+    λ clash. lost,
+  );
+  current = λ (calm : values.lost ≡ false). absurd (let e : true ≡ false = sym lost ∙ calm in cc e);
+}

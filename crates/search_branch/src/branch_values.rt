@@ -19,7 +19,7 @@ ghost use Rattle.search_branch.specs.Steps.{IsStep, IsWithin, branch_of};
 ghost use Rattle.search_branch.specs.Told.{HasCome};
 ghost use Rattle.search_branch.specs.Struck.{IsPlaceOf};
 
-use crate::build::{add_literals, enter_nodes, is_lost, watch_of};
+use crate::build::{add_literals, enter_nodes, height_of, is_lost, watch_of};
 use crate::next::next_of;
 use crate::step::Step;
 use crate::tell::{set_from, strike_each, tell_all, tell_start};
@@ -60,7 +60,7 @@ impl BranchValues {
     {
         let _rules = stack.depth();
         let watch = watch_of(alloc, stack)?;
-        let mut values = NodeValues::new(alloc)?;
+        let mut values = NodeValues::new(alloc, height_of(stack.formulas().len()))?;
         enter_nodes(alloc, &mut values, stack.formulas(), 0)?;
         tell_start(&mut values, &watch, stack)?;
         strike_each(&mut values, struck)?;
@@ -89,6 +89,7 @@ impl BranchValues {
         ensures over { OnOk result (IsLevelOver self.old self.new) }
         ensures values { OnOk result ((now : Assertions) (struck : List (ℕ × ℕ)) → AreValuesOf now struck self.old → AreValuesOf now struck self.new) }
     {
+        let _nodes = self.values.len();
         let mark = self.watch.mark();
         self.marks.reserve(1)?;
         self.values.push()?;
@@ -239,6 +240,7 @@ impl BranchValues {
         }
         let first = stack.formulas().len();
         let root = stack.enter_instance(forall, tuple)?;
+        let _rules_entered = stack.depth();
         self.grow(alloc, stack, first)?;
         self.assert(alloc, stack, root)?;
         Ok(())

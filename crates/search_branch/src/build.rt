@@ -35,6 +35,18 @@ pub(crate) fn is_lost(graph: &MatchingGraph) -> bool
     }
 }
 
+/// A height, below 32, of a tree with so many leaves, if there is one.
+pub(crate) fn height_of(count: u32) -> u32
+    ensures { result < 32 }
+{
+    for height in 0..31u32 {
+        if (1 << height) >= count {
+            return height;
+        }
+    }
+    31
+}
+
 /// The numbers as a list.
 fn list_of(alloc: Global, numbers: &Numbers) -> Result<ShortList<u32>, AllocError>
     ensures { IfOk result (λ list. list ≡ numbers.now) }

@@ -18,12 +18,12 @@ use Rattle.search_branch.specs.Levels.{IsLevelOver}
 use Rattle.search_check.specs.UnderWay.{Place, Half, place_of, path_in, AreHalves, IsHalfway, IsOnTheWay, IsUnderWay}
 use Rattle.search_check.specs.UnderWay.{IsAgainAt}
 use Rattle.search_check.proofs.ListLemmas.{not_none, same_last, same_front, take_seam}
-use Rattle.search_check.proofs.HalfLemmas.{ComesTo, halves_over, halves_more, keeps_in_round, calm_alike}
+use Rattle.search_check.proofs.HalfLemmas.{ComesTo, halves_over, halves_more, calm_alike}
 use Rattle.search_check.proofs.UnderWayLemmas.{place_at}
 use Rattle.search_check.proofs.WayLemmas.{loses, takes_up}
 
-module _ (rounds : ℕ) (start : Assertions) (asides : List Aside) (here : Place) (earlier : List BranchValues)
-    (values : BranchValues) (under_way : IsUnderWay rounds start asides here earlier values) where
+module _ (rounds : ℕ) (start : Assertions) (asides : List Aside) (here : Place)
+    (under_way : IsUnderWay rounds start asides here) where
   -- nothing was put aside, and a conflict loses the search
   pub none_left : asides ≡ [] → IsStep here.now.formulas (branch_of here.now here.struck) Lost →
       Verdict rounds (first_path start.formulas (held_of start)) unsat
@@ -46,8 +46,7 @@ pub record IsLastHalf (rounds : ℕ) (start : Assertions) (rest : List Aside) (a
     pub way : IsOnTheWay rounds (first_path start.formulas (held_of start)) (half ∷ halves) (path_in here)
 
 module _ (rounds : ℕ) (start : Assertions) (asides rest : List Aside) (aside : Aside) (here : Place)
-    (earlier : List BranchValues) (values : BranchValues) (is : asides ≡ rest ++ aside ∷ [])
-    (under_way : IsUnderWay rounds start asides here earlier values) where
+    (is : asides ≡ rest ++ aside ∷ []) (under_way : IsUnderWay rounds start asides here) where
   pub last_half : IsLastHalf rounds start rest aside here
   last_half = by under_way.halves under_way.are under_way.way
     where
@@ -74,21 +73,6 @@ module _ (rounds : ℕ) (start : Assertions) (asides rest : List Aside) (aside :
   pub marked : (before : Assertions) × IsMark before aside.mark × KeepsLevels before here.now
   marked = (last_half.half.before, its_mark, last_half.halfway.keeps)
 
-  -- no more rounds were spent at it than were begun
-  pub within_rounds : aside.spent ≤ length earlier
-  within_rounds =
-      let same : length last_half.half.spent ≡ aside.spent =
-      last_half.halfway.so_many_spent ∙ ap (λ (a : Aside). a.spent) last_half.aside_is in
-      let all : length here.spent ≡ length last_half.half.spent + length last_half.halfway.spent_later =
-      ap length last_half.halfway.spent_are ∙ length-append last_half.half.spent last_half.halfway.spent_later in
-      let each = under_way.each_round in
-      omega (arith, same, all, each)
-
--- an element that stands behind a list is at the list's length
-behind_at : {X : Type 0} (front later : List X) (x : X) → slice_get (front ++ x ∷ later) (length front) ≡ Some x
-behind_at [] later x = refl
-behind_at (first ∷ front) later x = behind_at front later x
-
 -- where so many of a list were there before, they are its first so many
 front_is : {X : Type 0} (before later now : List X) (count : ℕ) → length before ≡ count → now ≡ before ++ later →
     take count now ≡ before
@@ -100,41 +84,17 @@ module _ (same : (now : Assertions) → KeepsLevels now now)
     (both : (first second third : Assertions) → KeepsLevels first second → KeepsLevels second third →
     KeepsLevels first third)
     (rounds : ℕ) (start now : Assertions) (asides rest : List Aside) (aside : Aside) (struck : List (ℕ × ℕ))
-    (done : List Instance) (spent : List ℕ) (earlier : List BranchValues) (values : BranchValues)
-    (is : asides ≡ rest ++ aside ∷ [])
-    (under_way : IsUnderWay rounds start asides (place_at now struck done spent earlier values) earlier values)
-    (taken : BranchValues) (taken_is : slice_get (earlier ++ values ∷ []) aside.spent ≡ Some taken) where
-  its : IsLastHalf rounds start rest aside (place_at now struck done spent earlier values)
-  its = last_half rounds start asides rest aside (place_at now struck done spent earlier values) earlier values is
-      under_way
+    (done : List Instance) (spent : List ℕ) (values : BranchValues) (is : asides ≡ rest ++ aside ∷ [])
+    (under_way : IsUnderWay rounds start asides (place_at now struck done spent values)) where
+  its : IsLastHalf rounds start rest aside (place_at now struck done spent values)
+  its = last_half rounds start asides rest aside (place_at now struck done spent values) is under_way
 
   so_many_rounds : length its.half.spent ≡ aside.spent
   so_many_rounds = its.halfway.so_many_spent ∙ ap (λ (a : Aside). a.spent) its.aside_is
 
-  so_many_values : length its.half.earlier ≡ aside.spent
-  so_many_values = its.halfway.is_half.each_round ∙ so_many_rounds
-
-  -- its values are those of its round
-  same_values : its.halfway.values ≡ taken
-  same_values = same_Some its.halfway.values taken
-      (sym (behind_at its.half.earlier its.halfway.values_later its.halfway.values)
-      ∙ ap (λ (all : List BranchValues). slice_get all (length its.half.earlier)) (sym its.halfway.values_are)
-      ∙ ap (slice_get (earlier ++ values ∷ [])) so_many_values ∙ taken_is)
-
-  level_there : IsLevelOver its.half.values taken
-  level_there = subst (IsLevelOver its.half.values) same_values its.halfway.level
-
-  -- a level of them was opened at it
-  pub opened : (before : BranchValues) × IsLevelOver before taken
-  opened = (its.half.values, level_there)
-
-  earlier_then : take aside.spent earlier ≡ its.half.earlier
-  earlier_then =
-      sym (take-append-le aside.spent earlier (values ∷ [])
-      (within_rounds rounds start asides rest aside (place_at now struck done spent earlier values) earlier values is
-      under_way))
-      ∙ front_is its.half.earlier (its.halfway.values ∷ its.halfway.values_later) (earlier ++ values ∷ []) aside.spent
-      so_many_values its.halfway.values_are
+  -- a level of the values was opened at it
+  pub opened : (before : BranchValues) × IsLevelOver before values
+  opened = (its.half.values, its.halfway.level)
 
   struck_then : take aside.struck struck ≡ its.half.struck
   struck_then = front_is its.half.struck its.halfway.struck_later struck aside.struck
@@ -149,9 +109,9 @@ module _ (same : (now : Assertions) → KeepsLevels now now)
 
   module _ (back : Assertions) (closed : BranchValues)
       (went_back : (before : Assertions) → IsMark before aside.mark → KeepsLevels before now → back ≡ before)
-      (right : (before : BranchValues) → IsLevelOver before taken → before.lost ≡ false → (stood : Assertions)
+      (right : (before : BranchValues) → IsLevelOver before values → before.lost ≡ false → (stood : Assertions)
       (places : List (ℕ × ℕ)) → AreValuesOf stood places before → AreValuesOf stood places closed)
-      (levels : (before outer : BranchValues) → IsLevelOver before taken → IsLevelOver outer before →
+      (levels : (before outer : BranchValues) → IsLevelOver before values → IsLevelOver outer before →
       IsLevelOver outer closed) where
     is_back : back ≡ its.half.before
     is_back = went_back its.half.before
@@ -163,11 +123,11 @@ module _ (same : (now : Assertions) → KeepsLevels now now)
         (halves_over both start its.halves rest (place_of its.half) its.are)
 
     right_back : AreValuesOf its.half.before its.half.struck closed
-    right_back = right its.half.values level_there its.halfway.is_half.calm its.half.before its.half.struck
+    right_back = right its.half.values its.halfway.level its.halfway.is_half.calm its.half.before its.half.struck
         its.halfway.is_half.right
 
     abbrev place_back : Place
-    place_back = place_at its.half.before its.half.struck its.half.done its.half.spent its.half.earlier closed
+    place_back = place_at its.half.before its.half.struck its.half.done its.half.spent closed
 
     comes_back : ComesTo (place_of its.half) place_back
     comes_back = record {
@@ -178,12 +138,11 @@ module _ (same : (now : Assertions) → KeepsLevels now now)
       done_are = sym (append-nil its.half.done);
       spent = [];
       spent_are = sym (append-nil its.half.spent);
-      levels = keeps_in_round its.half.earlier its.half.values closed
-          (λ outer. levels its.half.values outer level_there);
+      levels = λ outer. levels its.half.values outer its.halfway.level;
     }
 
     its_second : IsStep now.formulas (branch_of now struck) Lost →
-        IsAgainAt rounds start rest place_back its.half.earlier closed its.half.aside
+        IsAgainAt rounds start rest place_back its.half.aside
     its_second step = record {
       node = its.half.node;
       is_half = record {
@@ -196,37 +155,31 @@ module _ (same : (now : Assertions) → KeepsLevels now now)
             its.halfway.is_half.calm right_back;
         places = its.halfway.is_half.places;
         lives = its.halfway.is_half.lives;
-        each_round = its.halfway.is_half.each_round;
       };
       halves = its.halves;
       are = halves_more both start its.halves rest (place_of its.half) place_back comes_back its.are;
       way = takes_up rounds (first_path start.formulas (held_of start)) its.half its.halves
-          (path_in (place_at now struck done spent earlier values)) its.way step;
+          (path_in (place_at now struck done spent values)) its.way step;
       not_past = let all : length spent ≡ length its.half.spent + length its.halfway.spent_later =
           ap length its.halfway.spent_are ∙ length-append its.half.spent its.halfway.spent_later in
           let past = under_way.not_past in omega (arith, all, past);
     }
 
     -- and its second half is to come
-    pub again_there : (done_back : List Instance) (spent_back : List ℕ) (earlier_back : List BranchValues) →
-        done_back ≡ take aside.done done → spent_back ≡ take aside.spent spent →
-        earlier_back ≡ take aside.spent earlier → IsStep now.formulas (branch_of now struck) Lost →
-        IsAgainAt rounds start rest
-        (place_at back (take aside.struck struck) done_back spent_back earlier_back closed) earlier_back closed aside
-    again_there done_back spent_back earlier_back done_is spent_is earlier_is step =
+    pub again_there : (done_back : List Instance) (spent_back : List ℕ) → done_back ≡ take aside.done done →
+        spent_back ≡ take aside.spent spent → IsStep now.formulas (branch_of now struck) Lost →
+        IsAgainAt rounds start rest (place_at back (take aside.struck struck) done_back spent_back closed) aside
+    again_there done_back spent_back done_is spent_is step =
         subst (λ (stood : Assertions). IsAgainAt rounds start rest
-        (place_at stood (take aside.struck struck) done_back spent_back earlier_back closed) earlier_back closed aside)
+        (place_at stood (take aside.struck struck) done_back spent_back closed) aside)
         (sym is_back)
         (subst (λ (places : List (ℕ × ℕ)). IsAgainAt rounds start rest
-        (place_at its.half.before places done_back spent_back earlier_back closed) earlier_back closed aside)
+        (place_at its.half.before places done_back spent_back closed) aside)
         (sym struck_then)
         (subst (λ (instances : List Instance). IsAgainAt rounds start rest
-        (place_at its.half.before its.half.struck instances spent_back earlier_back closed) earlier_back closed aside)
+        (place_at its.half.before its.half.struck instances spent_back closed) aside)
         (sym (done_is ∙ done_then))
         (subst (λ (counts : List ℕ). IsAgainAt rounds start rest
-        (place_at its.half.before its.half.struck its.half.done counts earlier_back closed) earlier_back closed aside)
+        (place_at its.half.before its.half.struck its.half.done counts closed) aside)
         (sym (spent_is ∙ spent_then))
-        (subst (λ (others : List BranchValues). IsAgainAt rounds start rest
-        (place_at its.half.before its.half.struck its.half.done its.half.spent others closed) others closed aside)
-        (sym (earlier_is ∙ earlier_then))
-        (subst (IsAgainAt rounds start rest place_back its.half.earlier closed) its.aside_is (its_second step))))))
+        (subst (IsAgainAt rounds start rest place_back) its.aside_is (its_second step)))))

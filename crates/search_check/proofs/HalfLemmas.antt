@@ -1,4 +1,4 @@
--- Splits under way, and the values of each round.
+-- Splits under way.
 use Rattle.std.proofs.Common.{◌≡◌, ℕ, false, List, [], ◌∷◌, ◌++◌, ap, ◌∙◌, append_assoc, inl, inr}
 use Rattle.std.proofs.lemmas.Bool.{false_from_ne_true, iff_false}
 use Rattle.formula_table.specs.Formulas.{Formulas}
@@ -15,7 +15,6 @@ use Rattle.search_branch.specs.Levels.{IsLevelOver}
 use Rattle.search_branch.specs.Steps.{branch_of, HasNoConflict}
 use Rattle.search_check.specs.declared.aside.Aside.{Aside}
 use Rattle.search_check.specs.UnderWay.{Place, Half, place_of, AreHalves}
-use Rattle.search_check.proofs.ListLemmas.{IsBehind, last_changed}
 
 -- a clash is a conflict
 clash_conflict : (formulas : Formulas) (branch : Branch) → HasClash branch.held.graph.standing →
@@ -35,28 +34,6 @@ pub calm_alike : (now : Assertions) (struck : List (ℕ × ℕ)) (one other : Br
 calm_alike now struck one other right calm alike =
     false_from_ne_true other.lost (λ lost. iff_false right.lost calm (alike.lost.0 lost))
 
--- what is over a level stays so, at the same place
-abbrev pub KeepsEachLevel : List BranchValues → List BranchValues → Type 0
-KeepsEachLevel values next = (front : List BranchValues) (before : BranchValues) →
-    IsBehind (IsLevelOver before) front values → IsBehind (IsLevelOver before) front next
-
--- the values of the round under way change in the same levels
-pub keeps_in_round : (earlier : List BranchValues) (values next : BranchValues) →
-    ((before : BranchValues) → IsLevelOver before values → IsLevelOver before next) →
-    KeepsEachLevel (earlier ++ values ∷ []) (earlier ++ next ∷ [])
-keeps_in_round earlier values next levels front before over =
-    last_changed (IsLevelOver before) earlier front values next (levels before) over
-
--- values of a round more come behind them
-pub keeps_behind : (values : List BranchValues) (next : BranchValues) → KeepsEachLevel values (values ++ next ∷ [])
-keeps_behind values next front before over = record {
-  value = over.value;
-  later = over.later ++ next ∷ [];
-  all_are = ap (λ (all : List BranchValues). all ++ next ∷ []) over.all_are
-      ∙ append_assoc front (over.value ∷ over.later) (next ∷ []);
-  has = over.has;
-}
-
 -- what came on the way from one place to a later one
 pub record ComesTo (here next : Place) : Type 0 where
   pub keeps : KeepsLevels here.now next.now
@@ -66,7 +43,7 @@ pub record ComesTo (here next : Place) : Type 0 where
   pub done_are : next.done ≡ here.done ++ done
   pub spent : List ℕ
   pub spent_are : next.spent ≡ here.spent ++ spent
-  pub levels : KeepsEachLevel here.values next.values
+  pub levels : (before : BranchValues) → IsLevelOver before here.values → IsLevelOver before next.values
 
 -- a front of a front is one
 front_more : {X : Type 0} (front later more here next : List X) → here ≡ front ++ later → next ≡ here ++ more →
@@ -86,13 +63,7 @@ module _ (both : (first second third : Assertions) → KeepsLevels first second 
   pub halves_more : (start : Assertions) (halves : List Half) (asides : List Aside) (here next : Place) →
       ComesTo here next → AreHalves start halves asides here → AreHalves start halves asides next
   halves_more start [] asides here next comes are = (are.0, both start here.now next.now are.1 comes.keeps)
-  halves_more start (half ∷ halves) asides here next comes are =
-      let over : IsBehind (IsLevelOver half.values) half.earlier next.values = comes.levels half.earlier half.values (record {
-        value = are.2.values;
-        later = are.2.values_later;
-        all_are = are.2.values_are;
-        has = are.2.level;
-      }) in (
+  halves_more start (half ∷ halves) asides here next comes are = (
         are.0,
         are.1,
         record {
@@ -110,10 +81,7 @@ module _ (both : (first second third : Assertions) → KeepsLevels first second 
           spent_later = are.2.spent_later ++ comes.spent;
           spent_are = front_more half.spent are.2.spent_later comes.spent here.spent next.spent are.2.spent_are
               comes.spent_are;
-          values = over.value;
-          values_later = over.later;
-          values_are = over.all_are;
-          level = over.has;
+          level = comes.levels half.values are.2.level;
         },
         are.3,
       )

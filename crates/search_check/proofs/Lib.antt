@@ -15,3 +15,4 @@ pub mod NewLemmas
 pub mod EnteredLives
 pub mod RoundLemmas
 pub mod StartLemmas
+pub mod StandLemmas

@@ -13,6 +13,7 @@ use Rattle.search_laws.specs.Rounds as entering
 use Rattle.search_laws.specs.Verdict.{refused, Verdict}
 use Rattle.search_branch.specs.declared.branch_values.BranchValues.{BranchValues}
 use Rattle.search_branch.specs.declared.step.Step.TheVariants.{WayOut}
+use Rattle.search_branch.specs.Levels.{IsLevelOver}
 use Rattle.search_branch.specs.Right.{AreValuesOf}
 use Rattle.search_branch.specs.Steps.{branch_of, IsStep}
 use Rattle.search_check.specs.declared.aside.Aside.{Aside}
@@ -24,7 +25,7 @@ use Rattle.search_check.specs.UnderWay.{IsOnTheWay, IsUnderWay, GoesOn}
 use Rattle.search_check.specs.Verdicts.{IsOpenWith}
 use Rattle.search_check.proofs.EnteredLives.{lives_all}
 use Rattle.search_check.proofs.GrowthLemmas.{places_kept}
-use Rattle.search_check.proofs.HalfLemmas.{KeepsEachLevel, halves_more, keeps_behind}
+use Rattle.search_check.proofs.HalfLemmas.{halves_more}
 use Rattle.search_check.proofs.UnderWayLemmas.{place_at}
 use Rattle.search_check.proofs.WayLemmas.{settles, spends, overflows, goes_on}
 
@@ -38,8 +39,8 @@ done_entered {before = before} {after = after}
     ∙ append_assoc before.done (instance ∷ []) instances
 
 module _ (rounds : ℕ) (start now : Assertions) (asides : List Aside) (struck : List (ℕ × ℕ)) (done : List Instance)
-    (spent : List ℕ) (earlier : List BranchValues) (values : BranchValues)
-    (under_way : IsUnderWay rounds start asides (place_at now struck done spent earlier values) earlier values)
+    (spent : List ℕ) (values : BranchValues)
+    (under_way : IsUnderWay rounds start asides (place_at now struck done spent values))
     (step : IsStep now.formulas (branch_of now struck) WayOut) where
   abbrev first : Path
   first = first_path start.formulas (held_of start)
@@ -90,13 +91,14 @@ module _ (rounds : ℕ) (start now : Assertions) (asides : List Aside) (struck :
       pub round_entered : ((one between other : Assertions) → KeepsLevels one between → KeepsLevels between other →
           KeepsLevels one other) → (instances : List Instance) → instances ≢ [] → AreNewIn path instances →
           length spent < rounds → EntersAll instances path (path_at next struck later spent) →
-          (counts : List ℕ) → counts ≡ spent ++ length instances ∷ [] → (behind : List BranchValues) →
-          behind ≡ earlier ++ values ∷ [] → (values_next : BranchValues) → AreValuesOf next struck values_next →
-          IsUnderWay rounds start asides (place_at next struck later counts behind values_next) behind values_next
-      round_entered both instances some new more enters counts counted behind put values_next right = record {
+          (counts : List ℕ) → counts ≡ spent ++ length instances ∷ [] → (values_next : BranchValues) →
+          AreValuesOf next struck values_next →
+          ((before : BranchValues) → IsLevelOver before values → IsLevelOver before values_next) →
+          IsUnderWay rounds start asides (place_at next struck later counts values_next)
+      round_entered both instances some new more enters counts counted values_next right levels = record {
         halves = under_way.halves;
-        are = halves_more both start under_way.halves asides (place_at now struck done spent earlier values)
-            (place_at next struck later counts behind values_next)
+        are = halves_more both start under_way.halves asides (place_at now struck done spent values)
+            (place_at next struck later counts values_next)
             (record {
               keeps = keeps;
               struck = [];
@@ -105,8 +107,7 @@ module _ (rounds : ℕ) (start now : Assertions) (asides : List Aside) (struck :
               done_are = done_entered enters;
               spent = length instances ∷ [];
               spent_are = counted;
-              levels = subst (λ (all : List BranchValues). KeepsEachLevel (earlier ++ values ∷ [])
-                  (all ++ values_next ∷ [])) (sym put) (keeps_behind (earlier ++ values ∷ []) values_next);
+              levels = levels;
             })
             under_way.are;
         way = subst (λ (all : List ℕ). IsOnTheWay rounds first under_way.halves (path_at next struck later all))
@@ -114,9 +115,6 @@ module _ (rounds : ℕ) (start now : Assertions) (asides : List Aside) (struck :
         right = right;
         places = places_kept now next keeps struck under_way.places;
         lives = lives_all enters under_way.lives;
-        each_round = ap length put ∙ length-append earlier (values ∷ [])
-            ∙ ap (λ (n : ℕ). n + 1) under_way.each_round
-            ∙ sym (ap length counted ∙ length-append spent (length instances ∷ []));
         not_past =
             let count = ap length counted ∙ length-append spent (length instances ∷ []) in
             omega (arith, count, more);

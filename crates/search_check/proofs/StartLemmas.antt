@@ -13,18 +13,17 @@ use Rattle.search_check.proofs.HalfLemmas.{halves_over}
 module _ (both : (first second third : Assertions) → KeepsLevels first second → KeepsLevels second third →
     KeepsLevels first third) where
   -- a search under way keeps the levels of the start
-  pub keeps_start : (rounds : ℕ) (start : Assertions) (asides : List Aside) (here : Place)
-      (earlier : List BranchValues) (values : BranchValues) → IsUnderWay rounds start asides here earlier values →
+  pub keeps_start : (rounds : ℕ) (start : Assertions) (asides : List Aside) (here : Place) →
+      IsUnderWay rounds start asides here →
       KeepsLevels start here.now
-  keeps_start rounds start asides here earlier values searching =
+  keeps_start rounds start asides here searching =
       halves_over both start searching.halves asides here searching.are
 
   -- and so does what keeps them from there
-  pub keeps_on : (rounds : ℕ) (start : Assertions) (asides : List Aside) (here : Place)
-      (earlier : List BranchValues) (values : BranchValues) (next : Assertions) →
-      IsUnderWay rounds start asides here earlier values → KeepsLevels here.now next → KeepsLevels start next
-  keeps_on rounds start asides here earlier values next searching keeps = both start here.now next
-      (keeps_start rounds start asides here earlier values searching) keeps
+  pub keeps_on : (rounds : ℕ) (start : Assertions) (asides : List Aside) (here : Place) (next : Assertions) →
+      IsUnderWay rounds start asides here → KeepsLevels here.now next → KeepsLevels start next
+  keeps_on rounds start asides here next searching keeps = both start here.now next
+      (keeps_start rounds start asides here searching) keeps
 
 -- what was found, of this step
 module _ (now : Assertions) (struck : List (ℕ × ℕ)) (values : BranchValues) (found step : Step)

@@ -27,14 +27,14 @@ use Rattle.search_branch.specs.Struck.{IsPlaceOf}
 use Rattle.search_check.specs.declared.aside.Aside.{Aside}
 use Rattle.search_check.specs.Round.{path_at, LivesAreAsserted}
 use Rattle.search_check.specs.UnderWay.{Place, Half, IsOnTheWay, IsUnderWay, IsAgainAt}
-use Rattle.search_check.proofs.HalfLemmas.{calm_here, halves_more, keeps_in_round}
+use Rattle.search_check.proofs.HalfLemmas.{calm_here, halves_more}
 use Rattle.search_check.proofs.LivesLemmas.{refuted_lives}
 use Rattle.search_check.proofs.WayLemmas.{starts, steps, ends, splits}
 
 -- where a search stands
-abbrev pub place_at : Assertions → List (ℕ × ℕ) → List Instance → List ℕ → List BranchValues → BranchValues → Place
-place_at now struck done spent earlier values =
-    record { now = now; struck = struck; done = done; spent = spent; values = earlier ++ values ∷ [] }
+abbrev pub place_at : Assertions → List (ℕ × ℕ) → List Instance → List ℕ → BranchValues → Place
+place_at now struck done spent values =
+    record { now = now; struck = struck; done = done; spent = spent; values = values }
 
 -- each asserted node stands in the table at the start, and each live trigger comes from an asserted forall
 lives_at_start : (formulas : Formulas) (now : Held) → HoldsExactly formulas now → LivesAreAsserted formulas now
@@ -47,12 +47,11 @@ lives_at_start formulas now exact = record {
 
 -- nothing is split at first, and no round is spent
 pub begins : (rounds : ℕ) (start : Assertions) (asides : List Aside) (struck : List (ℕ × ℕ)) (done : List Instance)
-    (spent : List ℕ) (earlier : List BranchValues) (values : BranchValues) → KeepsLevels start start → asides ≡ [] →
-    struck ≡ [] → done ≡ [] → spent ≡ [] → earlier ≡ [] → AreValuesOf start [] values →
+    (spent : List ℕ) (values : BranchValues) → KeepsLevels start start → asides ≡ [] →
+    struck ≡ [] → done ≡ [] → spent ≡ [] → AreValuesOf start [] values →
     HoldsExactly start.formulas (held_of start) →
-    IsUnderWay rounds start asides (place_at start struck done spent earlier values) earlier values
-begins rounds start asides struck done spent earlier values same no_aside none_struck none_done none_spent none_earlier
-    right exact =
+    IsUnderWay rounds start asides (place_at start struck done spent values)
+begins rounds start asides struck done spent values same no_aside none_struck none_done none_spent right exact =
     let first = first_path start.formulas (held_of start) in
     record {
       halves = [];
@@ -67,7 +66,6 @@ begins rounds start asides struck done spent earlier values same no_aside none_s
       places = subst (All (IsPlaceOf start.formulas.nodes)) (sym none_struck)
           (All-nil (IsPlaceOf start.formulas.nodes));
       lives = lives_at_start start.formulas (held_of start) exact;
-      each_round = ap length none_earlier ∙ sym (ap length none_spent);
       not_past = let none = ap length none_spent in omega (arith, none);
     }
 
@@ -75,8 +73,8 @@ module _ (over_law : (before after : Assertions) → HoldsMoreOver before after 
     (both : (first second third : Assertions) → KeepsLevels first second → KeepsLevels second third →
     KeepsLevels first third)
     (rounds : ℕ) (start now : Assertions) (asides : List Aside) (struck : List (ℕ × ℕ)) (done : List Instance)
-    (spent : List ℕ) (earlier : List BranchValues) (values : BranchValues)
-    (under_way : IsUnderWay rounds start asides (place_at now struck done spent earlier values) earlier values) where
+    (spent : List ℕ) (values : BranchValues)
+    (under_way : IsUnderWay rounds start asides (place_at now struck done spent values)) where
   module _ (next : Assertions) (part : ℕ) (values_next : BranchValues) (over : HoldsMoreOver now next)
       (asserts : Asserts now.formulas part (held_of now) (held_of next)) (right : AreValuesOf next struck values_next)
       (lives : LivesAreAsserted next.formulas (held_of next)) where
@@ -87,11 +85,11 @@ module _ (over_law : (before after : Assertions) → HoldsMoreOver before after 
     -- the part of the first unit was asserted
     pub unit_asserted : ((before : BranchValues) → IsLevelOver before values → IsLevelOver before values_next) →
         IsStep now.formulas (branch_of now struck) (Assert part) →
-        IsUnderWay rounds start asides (place_at next struck done spent earlier values_next) earlier values_next
+        IsUnderWay rounds start asides (place_at next struck done spent values_next)
     unit_asserted levels step = record {
       halves = under_way.halves;
-      are = halves_more both start under_way.halves asides (place_at now struck done spent earlier values)
-          (place_at next struck done spent earlier values_next)
+      are = halves_more both start under_way.halves asides (place_at now struck done spent values)
+          (place_at next struck done spent values_next)
           (record {
             keeps = over_law now next over;
             struck = [];
@@ -100,7 +98,7 @@ module _ (over_law : (before after : Assertions) → HoldsMoreOver before after 
             done_are = sym (append-nil done);
             spent = [];
             spent_are = sym (append-nil spent);
-            levels = keeps_in_round earlier values values_next levels;
+            levels = levels;
           })
           under_way.are;
       way = subst (λ (formulas : Formulas). IsOnTheWay rounds (first_path start.formulas (held_of start))
@@ -112,7 +110,6 @@ module _ (over_law : (before after : Assertions) → HoldsMoreOver before after 
       right = right;
       places = places_next;
       lives = lives;
-      each_round = under_way.each_round;
       not_past = under_way.not_past;
     }
 
@@ -121,7 +118,7 @@ module _ (over_law : (before after : Assertions) → HoldsMoreOver before after 
         IsStep now.formulas (branch_of now struck) (Split aside.node aside.place part) → IsMark now aside.mark →
         length struck ≡ aside.struck → length done ≡ aside.done → length spent ≡ aside.spent →
         part < length now.formulas.nodes → more ≡ asides ++ aside ∷ [] → IsLevelOver values values_next →
-        IsUnderWay rounds start more (place_at next struck done spent earlier values_next) earlier values_next
+        IsUnderWay rounds start more (place_at next struck done spent values_next)
     split_asserted aside more part_is step mark so_many_struck so_many_done so_many_spent within put level =
         let node : Node = get_or now.formulas.nodes part (Atom true 0) in
         let has : HasNode now.formulas.nodes part node = slice_get-get_or now.formulas.nodes part
@@ -131,7 +128,6 @@ module _ (over_law : (before after : Assertions) → HoldsMoreOver before after 
           struck = struck;
           done = done;
           spent = spent;
-          earlier = earlier;
           values = values;
           aside = record aside { part = part };
           node = node;
@@ -152,8 +148,7 @@ module _ (over_law : (before after : Assertions) → HoldsMoreOver before after 
                 calm = calm_here now struck values under_way.right step.0;
                 places = under_way.places;
                 lives = under_way.lives;
-                each_round = under_way.each_round;
-              };
+                        };
               mark = mark;
               keeps = over_law now next over;
               so_many_struck = so_many_struck;
@@ -165,9 +160,6 @@ module _ (over_law : (before after : Assertions) → HoldsMoreOver before after 
               done_are = sym (append-nil done);
               spent_later = [];
               spent_are = sym (append-nil spent);
-              values = values_next;
-              values_later = [];
-              values_are = refl;
               level = level;
             },
             under_way.are,
@@ -181,13 +173,12 @@ module _ (over_law : (before after : Assertions) → HoldsMoreOver before after 
           right = right;
           places = places_next;
           lives = lives;
-          each_round = under_way.each_round;
-          not_past = under_way.not_past;
+              not_past = under_way.not_past;
         }
 
 module _ (rounds : ℕ) (start now : Assertions) (asides : List Aside) (struck : List (ℕ × ℕ)) (done : List Instance)
-    (spent : List ℕ) (earlier : List BranchValues) (values : BranchValues)
-    (under_way : IsUnderWay rounds start asides (place_at now struck done spent earlier values) earlier values) where
+    (spent : List ℕ) (values : BranchValues)
+    (under_way : IsUnderWay rounds start asides (place_at now struck done spent values)) where
   -- nothing is open, and no forall is live
   pub ends_here : IsStep now.formulas (branch_of now struck) WayOut →
       live_in now.formulas (branch_of now struck) ≡ [] →
@@ -200,8 +191,8 @@ module _ (over_law : (before after : Assertions) → HoldsMoreOver before after 
     (both : (first second third : Assertions) → KeepsLevels first second → KeepsLevels second third →
     KeepsLevels first third)
     (rounds : ℕ) (start now : Assertions) (asides : List Aside) (struck : List (ℕ × ℕ)) (done : List Instance)
-    (spent : List ℕ) (earlier : List BranchValues) (values : BranchValues) (aside : Aside)
-    (again : IsAgainAt rounds start asides (place_at now struck done spent earlier values) earlier values aside) where
+    (spent : List ℕ) (values : BranchValues) (aside : Aside)
+    (again : IsAgainAt rounds start asides (place_at now struck done spent values) aside) where
   pub second_refuted : (next : Assertions) (places : List (ℕ × ℕ)) (values_next : BranchValues) →
       HoldsMoreOver now next →
       ((node : Node) → HasNode now.formulas.nodes aside.part node →
@@ -209,17 +200,17 @@ module _ (over_law : (before after : Assertions) → HoldsMoreOver before after 
       places ≡ struck ++ (aside.node, aside.place) ∷ [] →
       AreValuesOf next (struck ++ (aside.node, aside.place) ∷ []) values_next →
       ((before : BranchValues) → IsLevelOver before values → IsLevelOver before values_next) →
-      IsUnderWay rounds start asides (place_at next places done spent earlier values_next) earlier values_next
+      IsUnderWay rounds start asides (place_at next places done spent values_next)
   second_refuted next places values_next over refuted put right levels =
       let more : List (ℕ × ℕ) = (aside.node, aside.place) ∷ [] in
       let first = first_path start.formulas (held_of start) in
       let is : held_of next ≡ held (replay now.graph (refuting_of again.node)) now.asserted =
       refuted again.node again.is_half.has in
-      subst (λ (all : List (ℕ × ℕ)). IsUnderWay rounds start asides (place_at next all done spent earlier values_next)
-      earlier values_next) (sym put) (record {
+      subst (λ (all : List (ℕ × ℕ)). IsUnderWay rounds start asides (place_at next all done spent values_next))
+      (sym put) (record {
         halves = again.halves;
-        are = halves_more both start again.halves asides (place_at now struck done spent earlier values)
-            (place_at next (struck ++ more) done spent earlier values_next)
+        are = halves_more both start again.halves asides (place_at now struck done spent values)
+            (place_at next (struck ++ more) done spent values_next)
             (record {
               keeps = over_law now next over;
               struck = more;
@@ -228,7 +219,7 @@ module _ (over_law : (before after : Assertions) → HoldsMoreOver before after 
               done_are = sym (append-nil done);
               spent = [];
               spent_are = sym (append-nil spent);
-              levels = keeps_in_round earlier values values_next levels;
+              levels = levels;
             })
             again.are;
         way = subst (λ (formulas : Formulas). IsOnTheWay rounds first again.halves (record {
@@ -257,6 +248,5 @@ module _ (over_law : (before after : Assertions) → HoldsMoreOver before after 
         lives = subst (λ (formulas : Formulas). LivesAreAsserted formulas (held_of next)) (sym over.formulas_are)
             (subst (LivesAreAsserted now.formulas) (sym is)
             (refuted_lives now.formulas (held_of now) again.node again.is_half.lives));
-        each_round = again.is_half.each_round;
         not_past = again.not_past;
       })

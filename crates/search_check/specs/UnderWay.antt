@@ -23,26 +23,24 @@ use Rattle.search_check.specs.Round.{path_at, LivesAreAsserted}
 use Rattle.search_check.specs.Verdicts.{IsVerdictOf}
 
 -- what a search stands on: what is held, what is struck and done, how many instances each round entered, and the values
--- of each round, those of the round under way last
+-- of all formulas
 pub record Place : Type 0 where
   pub now : Assertions
   pub struck : List (ℕ × ℕ)
   pub done : List Instance
   pub spent : List ℕ
-  pub values : List BranchValues
+  pub values : BranchValues
 
 -- the path there
 abbrev pub path_in : Place → Path
 path_in place = path_at place.now place.struck place.done place.spent
 
--- a split: where it was, with the values of earlier rounds and those of its round, what the search keeps of it, and the
--- node of its part
+-- a split: where it was, with the values then, what the search keeps of it, and the node of its part
 pub record Half : Type 0 where
   pub before : Assertions
   pub struck : List (ℕ × ℕ)
   pub done : List Instance
   pub spent : List ℕ
-  pub earlier : List BranchValues
   pub values : BranchValues
   pub aside : Aside
   pub node : Node
@@ -54,7 +52,7 @@ place_of half = record {
   struck = half.struck;
   done = half.done;
   spent = half.spent;
-  values = half.earlier ++ half.values ∷ [];
+  values = half.values;
 }
 
 -- the path of the second half
@@ -72,10 +70,9 @@ pub record IsHalf (half : Half) : Type 0 where
   pub calm : half.values.lost ≡ false
   pub places : All (IsPlaceOf half.before.formulas.nodes) half.struck
   pub lives : LivesAreAsserted half.before.formulas (held_of half.before)
-  pub each_round : length half.earlier ≡ length half.spent
 
 -- The first half is under way: more is held, struck, done and spent now, and what was kept of the split leads back to it.
--- The values of the rounds before its own are as they were, and a level of those of its round was opened at it.
+-- A level of the values was opened at it.
 pub record IsHalfway (half : Half) (here : Place) : Type 0 where
   pub is_half : IsHalf half
   pub mark : IsMark half.before half.aside.mark
@@ -89,10 +86,7 @@ pub record IsHalfway (half : Half) (here : Place) : Type 0 where
   pub done_are : here.done ≡ half.done ++ done_later
   pub spent_later : List ℕ
   pub spent_are : here.spent ≡ half.spent ++ spent_later
-  pub values : BranchValues
-  pub values_later : List BranchValues
-  pub values_are : here.values ≡ half.earlier ++ values ∷ values_later
-  pub level : IsLevelOver half.values values
+  pub level : IsLevelOver half.values here.values
 
 -- these splits are under way, the last of them first, and what was kept of them is these asides, the last of them last
 abbrev pub AreHalves : Assertions → List Half → List Aside → Place → Type 0
@@ -113,17 +107,14 @@ abbrev pub IsOnTheWay : ℕ → Path → List Half → Path → Type 0
 IsOnTheWay rounds first halves path = (ending last : Ending) → Verdict rounds path ending →
     Unwinds rounds halves ending last → Verdict rounds first last
 
--- The search of what stood at the start, with so many rounds, is under way; of the values the last are those of what
--- stands, and there are some of each round.
-pub record IsUnderWay (rounds : ℕ) (start : Assertions) (asides : List Aside) (here : Place)
-    (earlier : List BranchValues) (values : BranchValues) : Type 0 where
+-- the search of what stood at the start, with so many rounds, is under way, and the values are those of what stands
+pub record IsUnderWay (rounds : ℕ) (start : Assertions) (asides : List Aside) (here : Place) : Type 0 where
   pub halves : List Half
   pub are : AreHalves start halves asides here
   pub way : IsOnTheWay rounds (first_path start.formulas (held_of start)) halves (path_in here)
-  pub right : AreValuesOf here.now here.struck values
+  pub right : AreValuesOf here.now here.struck here.values
   pub places : All (IsPlaceOf here.now.formulas.nodes) here.struck
   pub lives : LivesAreAsserted here.now.formulas (held_of here.now)
-  pub each_round : length earlier ≡ length here.spent
   pub not_past : length here.spent ≤ rounds
 
 -- where the search stands by what it keeps
@@ -133,26 +124,25 @@ place_in now search = record {
   struck = search.struck.items;
   done = search.done;
   spent = search.spent.items;
-  values = search.earlier.items ++ search.values ∷ [];
+  values = search.values;
 }
 
 -- so it is by what the search keeps
 abbrev pub IsSearching : ℕ → Assertions → Assertions → Search → Type 0
 IsSearching rounds start now search =
-    IsUnderWay rounds start search.asides.items (place_in now search) search.earlier.items search.values
+    IsUnderWay rounds start search.asides.items (place_in now search)
 
 -- the search went back to a split, which was kept as this aside: its second half is to come, and then those of the
 -- others
-pub record IsAgainAt (rounds : ℕ) (start : Assertions) (asides : List Aside) (here : Place)
-    (earlier : List BranchValues) (values : BranchValues) (aside : Aside) : Type 0 where
+pub record IsAgainAt (rounds : ℕ) (start : Assertions) (asides : List Aside) (here : Place) (aside : Aside) : Type 0
+  where
   pub node : Node
   pub is_half : IsHalf (record {
     before = here.now;
     struck = here.struck;
     done = here.done;
     spent = here.spent;
-    earlier = earlier;
-    values = values;
+    values = here.values;
     aside = aside;
     node = node;
   })
@@ -170,9 +160,9 @@ IsBackAt rounds start now search aside = IsAgainAt rounds start search.asides.it
       struck = take aside.struck search.struck.items;
       done = search.done;
       spent = search.spent.items;
-      values = search.earlier.items ++ search.values ∷ [];
+      values = search.values;
     })
-    search.earlier.items search.values aside
+    aside
 
 -- the search goes on, or this is its outcome
 abbrev pub GoesOn : ℕ → Assertions → Assertions → Search → Option Outcome → Type 0

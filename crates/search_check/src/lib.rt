@@ -4,7 +4,7 @@
 //! left over of a disjunction again and again, and then splits the first open disjunction: its first part left over is
 //! asserted, and where that is lost, it is struck and refuted. Where none is open and a forall is live, a round enters
 //! the new instances, and the search goes on with them. The values of all formulas are kept as the stack comes to hold
-//! more and goes back, so a step costs what follows from it and not the size of the table; a round makes them anew.
+//! more and goes back, so a step costs what follows from it, and an instance its body, and not the size of the table.
 #![tactic(auto)]
 
 mod aside;
@@ -13,7 +13,6 @@ mod kept;
 mod live;
 pub mod outcome;
 mod round;
-mod round_values;
 mod search;
 pub mod why;
 

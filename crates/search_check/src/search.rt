@@ -8,7 +8,7 @@ ghost use Rattle.search_branch.specs.Steps.{IsStep, branch_of};
 ghost use Rattle.search_branch.specs.Struck.{IsPlaceOf};
 ghost use Rattle.search_laws.specs.Branch.{live_in};
 ghost use Rattle.search_laws.specs.Rounds.{AreNewIn};
-ghost use Rattle.search_check.specs.Round.{path_at, CanEnter};
+ghost use Rattle.search_check.specs.Round.{path_at, CanEnter, LivesAreAsserted};
 ghost use Rattle.search_check.specs.Verdicts.{IsOpenWith, IsPastLimit};
 ghost use Rattle.search_check.specs.UnderWay.{IsSearching, IsBackAt, GoesOn};
 
@@ -17,7 +17,6 @@ use crate::kept::kept_of;
 use crate::live::has_live;
 use crate::outcome::Outcome;
 use crate::round::enter_all;
-use crate::round_values::{put_behind, take_back};
 use crate::why::Why;
 use formula_assert::AssertionStack;
 use formula_assert::laws::over_law;
@@ -28,15 +27,13 @@ use search_branch::{BranchValues, Step};
 use std::alloc::Global;
 
 /// The splits whose first halves are under way, the last of them last, the struck places, each a disjunction and a place
-/// of it, the instances that are done, how many each round entered, and the values of all formulas: those of the earlier
-/// rounds, the first one first, as they were when the next round began, and those of the round under way.
+/// of it, the instances that are done, how many each round entered, and the values of all formulas.
 #[derive(Drop)]
 pub(crate) struct Search {
     asides: Vec<Aside>,
     struck: Vec<(u32, u32)>,
     done: DoneInstances,
     spent: Vec<u32>,
-    earlier: Vec<BranchValues>,
     values: BranchValues,
 }
 
@@ -82,14 +79,12 @@ impl Search {
         let struck = Vec::new(alloc);
         let done = DoneInstances::new(alloc);
         let spent = Vec::new(alloc);
-        let earlier = Vec::new(alloc);
         let values = BranchValues::new(alloc, stack, &[])?;
         Ok(Search {
             asides,
             struck,
             done,
             spent,
-            earlier,
             values,
         })
     }
@@ -128,7 +123,6 @@ impl Search {
         match self.asides.pop() {
             None => return Ok(Some(Outcome::Unsat)),
             Some(aside) => {
-                take_back(&mut self.earlier, &mut self.values, aside.spent);
                 self.values.close();
                 self.done.keep_first(aside.done);
                 self.spent.truncate(aside.spent);
@@ -204,15 +198,15 @@ impl Search {
         requires some { instances.now ≢ [] }
         requires places { All (IsPlaceOf stack.old.formulas.nodes) self.old.struck.items }
         requires can_enter { All (CanEnter stack.old) instances.now }
+        requires lives { LivesAreAsserted stack.old.formulas (held_of stack.old) }
+        requires values { AreValuesOf stack.old self.old.struck.items self.old.values }
         ensures ok { IfOk result (λ outcome. (rounds : ℕ) (start : Assertions) → length self.old.spent.items < rounds → IsSearching rounds start stack.old self.old → GoesOn rounds start stack.new self.new outcome) }
         ensures limit { IfErr result (λ fault. (rounds : ℕ) (start : Assertions) → length self.old.spent.items < rounds → IsSearching rounds start stack.old self.old → IsPastLimit rounds start.formulas (held_of start) fault) }
         ensures levels { KeepsLevels stack.old stack.new }
     {
         over_law();
-        enter_all(stack, &mut self.done, instances)?;
+        enter_all(alloc, stack, &mut self.values, &mut self.done, instances)?;
         push_count(&mut self.spent, instances.len())?;
-        let next = BranchValues::new(alloc, stack, &self.struck)?;
-        put_behind(&mut self.earlier, &mut self.values, next)?;
         Ok(None)
     }
 

@@ -22,5 +22,4 @@ returns-in-Some-clause-levels c = c.advance.ensures.levels c.args.stack.now c.lo
 
 pub returns-clause-levels : goal.returns-clause-levels
 returns-clause-levels c = keeps_start c.over_law.ensures.both c.args.rounds c.args.stack.now
-    c.loop-step.search.asides.items (place_in c.loop-step.stack c.loop-step.search) c.loop-step.search.earlier.items
-    c.loop-step.search.values c.loop-step.invariant
+    c.loop-step.search.asides.items (place_in c.loop-step.stack c.loop-step.search) c.loop-step.invariant

@@ -20,16 +20,16 @@ returns-in_err-root-clause-levels c =
 
 pub invariant_of-self-2 : goal.invariant_of-self-2
 invariant_of-self-2 c =
-    instance_stack c.self.inside.graph c.instance.new.terms c.self.inside.formulas c.instance.new.self c.self.inside.asserted c.self.inside.levels.items c.self.invariant c.args.self.now c.self.view_is c.mark-_mark.ensures.can_be.formulas.table c.args.forall c.args.tuple.now c.requires.variables c.requires.tuple c.in_ok-root.root c.in_ok-root.ensures.ok
+    instance_stack c.self.inside.graph c.instance.new.terms c.self.inside.formulas c.instance.new.self c.self.inside.asserted c.self.inside.levels.items c.self.invariant c.args.self.now c.self.view_is c.mark-mark.ensures.can_be.formulas.table c.args.forall c.args.tuple.now c.requires.variables c.requires.tuple c.in_ok-root.root c.in_ok-root.ensures.ok
 
 pub returns-clause-ok : goal.returns-clause-ok
 returns-clause-ok c =
-    instance_entered c.self.inside.graph c.instance.new.terms c.self.inside.formulas c.instance.new.self c.self.inside.asserted c.self.inside.levels.items c.self.invariant c.args.self.now c.self.view_is c.mark-_mark.ensures.can_be.formulas.table c.args.forall c.args.tuple.now c.requires.variables c.requires.tuple c.in_ok-root.root c.in_ok-root.ensures.ok
+    instance_entered c.self.inside.graph c.instance.new.terms c.self.inside.formulas c.instance.new.self c.self.inside.asserted c.self.inside.levels.items c.self.invariant c.args.self.now c.self.view_is c.mark-mark.ensures.can_be.formulas.table c.args.forall c.args.tuple.now c.requires.variables c.requires.tuple c.in_ok-root.root c.in_ok-root.ensures.ok
 
 pub returns-clause-root : goal.returns-clause-root
 returns-clause-root c =
-    instance_root c.self.inside.graph c.instance.new.terms c.self.inside.formulas c.instance.new.self c.self.inside.asserted c.self.inside.levels.items c.self.invariant c.args.self.now c.self.view_is c.mark-_mark.ensures.can_be.formulas.table c.args.forall c.args.tuple.now c.requires.variables c.requires.tuple c.in_ok-root.root c.in_ok-root.ensures.ok
+    instance_root c.self.inside.graph c.instance.new.terms c.self.inside.formulas c.instance.new.self c.self.inside.asserted c.self.inside.levels.items c.self.invariant c.args.self.now c.self.view_is c.mark-mark.ensures.can_be.formulas.table c.args.forall c.args.tuple.now c.requires.variables c.requires.tuple c.in_ok-root.root c.in_ok-root.ensures.ok
 
 pub returns-clause-levels : goal.returns-clause-levels
 returns-clause-levels c =
-    instance_levels c.self.inside.graph c.instance.new.terms c.self.inside.formulas c.instance.new.self c.self.inside.asserted c.self.inside.levels.items c.self.invariant c.args.self.now c.self.view_is c.mark-_mark.ensures.can_be.formulas.table c.args.forall c.args.tuple.now c.requires.variables c.requires.tuple c.in_ok-root.root c.in_ok-root.ensures.ok
+    instance_levels c.self.inside.graph c.instance.new.terms c.self.inside.formulas c.instance.new.self c.self.inside.asserted c.self.inside.levels.items c.self.invariant c.args.self.now c.self.view_is c.mark-mark.ensures.can_be.formulas.table c.args.forall c.args.tuple.now c.requires.variables c.requires.tuple c.in_ok-root.root c.in_ok-root.ensures.ok

@@ -29,15 +29,13 @@ assert-requires-clause-step c = step_there c.args.stack.now c.args.self.now.stru
 pub returns-in_err-assert-in-Assert-clause-levels :
     goal.returns-in_err-assert-in-Assert-clause-levels
 returns-in_err-assert-in-Assert-clause-levels c start searching = keeps_on c.over_law.ensures.both c.args.rounds
-    start c.args.self.now.asides.items (place_in c.args.stack.now c.args.self.now) c.args.self.now.earlier.items
-    c.args.self.now.values c.assert.new.stack searching
+    start c.args.self.now.asides.items (place_in c.args.stack.now c.args.self.now) c.assert.new.stack searching
     (c.over_law.ensures.over c.args.stack.now c.assert.new.stack c.assert.ensures.more)
 
 pub returns-in_ok-assert-in-Assert-clause-levels :
     goal.returns-in_ok-assert-in-Assert-clause-levels
 returns-in_ok-assert-in-Assert-clause-levels c start searching = keeps_on c.over_law.ensures.both c.args.rounds
-    start c.args.self.now.asides.items (place_in c.args.stack.now c.args.self.now) c.args.self.now.earlier.items
-    c.args.self.now.values c.assert.new.stack searching
+    start c.args.self.now.asides.items (place_in c.args.stack.now c.args.self.now) c.assert.new.stack searching
     (c.over_law.ensures.over c.args.stack.now c.assert.new.stack c.assert.ensures.more)
 
 pub split-requires-clause-stands : goal.split-requires-clause-stands
@@ -52,14 +50,12 @@ split-requires-clause-step c = step_there c.args.stack.now c.args.self.now.struc
 
 pub returns-in_err-split-in-Split-clause-levels : goal.returns-in_err-split-in-Split-clause-levels
 returns-in_err-split-in-Split-clause-levels c start searching = keeps_on c.over_law.ensures.both c.args.rounds
-    start c.args.self.now.asides.items (place_in c.args.stack.now c.args.self.now) c.args.self.now.earlier.items
-    c.args.self.now.values c.split.new.stack searching
+    start c.args.self.now.asides.items (place_in c.args.stack.now c.args.self.now) c.split.new.stack searching
     (c.over_law.ensures.over c.args.stack.now c.split.new.stack c.split.ensures.more)
 
 pub returns-in_ok-split-in-Split-clause-levels : goal.returns-in_ok-split-in-Split-clause-levels
 returns-in_ok-split-in-Split-clause-levels c start searching = keeps_on c.over_law.ensures.both c.args.rounds
-    start c.args.self.now.asides.items (place_in c.args.stack.now c.args.self.now) c.args.self.now.earlier.items
-    c.args.self.now.values c.split.new.stack searching
+    start c.args.self.now.asides.items (place_in c.args.stack.now c.args.self.now) c.split.new.stack searching
     (c.over_law.ensures.over c.args.stack.now c.split.new.stack c.split.ensures.more)
 
 pub nothing_open-requires-clause-step : goal.nothing_open-requires-clause-step
@@ -68,5 +64,4 @@ nothing_open-requires-clause-step c = step_there c.args.stack.now c.args.self.no
 
 pub returns-in-WayOut-clause-levels : goal.returns-in-WayOut-clause-levels
 returns-in-WayOut-clause-levels c start searching = keeps_on c.over_law.ensures.both c.args.rounds
-    start c.args.self.now.asides.items (place_in c.args.stack.now c.args.self.now) c.args.self.now.earlier.items
-    c.args.self.now.values c.nothing_open.new.stack searching c.nothing_open.ensures.levels
+    start c.args.self.now.asides.items (place_in c.args.stack.now c.args.self.now) c.nothing_open.new.stack searching c.nothing_open.ensures.levels

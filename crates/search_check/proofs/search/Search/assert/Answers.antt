@@ -13,8 +13,7 @@ assert-requires-clause-calm c = calm_here c.args.stack.now c.args.self.now.struc
 pub returns-clause-ok : goal.returns-clause-ok
 returns-clause-ok c rounds start searching =
     unit_asserted c.over_law.ensures.over c.over_law.ensures.both rounds start c.args.stack.now
-    c.args.self.now.asides.items c.args.self.now.struck.items c.args.self.now.done c.args.self.now.spent.items
-    c.args.self.now.earlier.items c.args.self.now.values searching c.assert.new.stack c.args.part c.assert.new.self
+    c.args.self.now.asides.items c.args.self.now.struck.items c.args.self.now.done c.args.self.now.spent.items c.args.self.now.values searching c.assert.new.stack c.args.part c.assert.new.self
     c.assert.ensures.more c.in_ok-assert.ensures.asserts
     (c.in_ok-assert.ensures.values c.args.self.now.struck.items c.requires.values)
     (subst (λ formulas. LivesAreAsserted formulas (held_of c.assert.new.stack)) (sym c.assert.ensures.more.formulas_are)

@@ -14,7 +14,7 @@ returns-then-is_empty-clause-ok c start searching =
     let none : c.in_ok-instances.instances.items ≡ [] = no_elements c.in_ok-instances.instances.items
     (omega (arith, so_many, c.in_ok-instances.instances.ok)) in
     ends_settled c.args.rounds start c.args.stack.now c.args.self.now.asides.items c.args.self.now.struck.items
-    c.args.self.now.done c.args.self.now.spent.items c.args.self.now.earlier.items c.args.self.now.values searching
+    c.args.self.now.done c.args.self.now.spent.items c.args.self.now.values searching
     c.requires.step (c.has_live.ensures.some c.if-not-has_live.false) c.args.self.now c.in_ok-ends_open.field-0
     (subst (AreNew c.args.stack.now.graph.standing c.args.self.now.done) none
     (subst (λ (graph : GraphState). AreNew graph.standing c.args.self.now.done c.in_ok-instances.instances.items)
@@ -23,8 +23,7 @@ returns-then-is_empty-clause-ok c start searching =
 
 pub returns-then-len-rounds-clause-ok : goal.returns-then-len-rounds-clause-ok
 returns-then-len-rounds-clause-ok c start searching = ends_spent c.args.rounds start c.args.stack.now
-    c.args.self.now.asides.items c.args.self.now.struck.items c.args.self.now.done c.args.self.now.spent.items
-    c.args.self.now.earlier.items c.args.self.now.values searching c.requires.step
+    c.args.self.now.asides.items c.args.self.now.struck.items c.args.self.now.done c.args.self.now.spent.items c.args.self.now.values searching c.requires.step
     (c.has_live.ensures.some c.if-not-has_live.false) c.args.self.now c.in_ok-ends_open-2.field-0
     c.in_ok-instances.instances.items
     (λ none.
@@ -42,3 +41,9 @@ round-requires-clause-can_enter c = all_can_enter c.args.stack.now c.depth-rules
     (subst (AreNew c.args.stack.now.graph.standing c.args.self.now.done) (sym c.deref.ensures.value)
     (subst (λ (graph : GraphState). AreNew graph.standing c.args.self.now.done c.in_ok-instances.instances.items)
     c.graph.ensures c.in_ok-instances.ensures))
+
+pub round-requires-clause-lives : goal.round-requires-clause-lives
+round-requires-clause-lives c = c.requires.under_way.1.lives
+
+pub round-requires-clause-values : goal.round-requires-clause-values
+round-requires-clause-values c = c.requires.under_way.1.right

@@ -29,8 +29,7 @@ returns-clause-ok c rounds start searching =
       spent = c.len-spent.result;
     } in
     split_asserted c.over_law.ensures.over c.over_law.ensures.both rounds start c.args.stack.now
-    c.args.self.now.asides.items c.args.self.now.struck.items c.args.self.now.done c.args.self.now.spent.items
-    c.args.self.now.earlier.items c.args.self.now.values searching c.assert.new.stack c.args.part c.assert.new.self
+    c.args.self.now.asides.items c.args.self.now.struck.items c.args.self.now.done c.args.self.now.spent.items c.args.self.now.values searching c.assert.new.stack c.args.part c.assert.new.self
     c.assert.ensures.more c.in_ok-assert.ensures.asserts
     (c.in_ok-assert.ensures.values c.args.self.now.struck.items
     (c.in_ok-open.ensures.values c.args.stack.now c.args.self.now.struck.items c.requires.values))
