@@ -1,7 +1,8 @@
 -- What the changes of a board keep.
-use Rattle.std.proofs.Common.{◌≡◌, ℕ, zero, suc, ◌+◌, ◌-◌, ◌^◌, ◌<◌, ◌≤◌, ◌⊎◌, inl, inr, Bool, true, false, List, [], ◌∷◌, ◌++◌, length, take, length-append, slice_get, slice_index_or, slice_set, Some, count_by, if◌then◌else◌, refl, sym, ap, ◌∙◌, arith}
+use Rattle.std.proofs.Common.{◌≡◌, ℕ, zero, suc, ◌+◌, ◌-◌, ◌^◌, ◌<◌, ◌≤◌, ◌⊎◌, inl, inr, Bool, true, false, List, [], ◌∷◌, ◌++◌, length, take, length-append, slice_get, slice_index_or, slice_set, Some, count_by, replicate, lit<, if◌then◌else◌, refl, sym, ap, ◌∙◌, arith}
 use Rattle.std.proofs.lemmas.List.Sums.{sum_by-set, sum_by-cons, sum_by_push, count_by-le-length}
-use Rattle.std.proofs.lemmas.List.{take_more}
+use Rattle.std.proofs.lemmas.List.{take_more, get_or-replicate, get_or_past, length-replicate}
+use Rattle.std.proofs.Math.Nat.{pow-le-pow_right}
 use Rattle.std.proofs.Math.ListN.{length-set}
 use Rattle.formula_truth.specs.declared.truth.Truth.{Truth}
 use Rattle.formula_truth.specs.declared.truth.Truth.TheVariants.{Unset}
@@ -10,7 +11,9 @@ use Rattle.search_board.specs.declared.kind.Kind.TheVariants.{Leaf, And, Or}
 use Rattle.search_board.specs.declared.place.Place.{Place}
 use Rattle.search_board.specs.declared.counts.Counts.{Counts}
 use Rattle.search_board.specs.Places.{is_yes_place, is_no_place, is_left_place, is_fresh_place, one_if, counts_of, count_after, count_more, FitsChange, CanCount, unit_test, open_test, stuck_test}
-use Rattle.search_board.specs.Board.{Shown, blank, kind_at, truth_at, asserted_at, places_at, place_at, with_truth, with_asserted, with_place, with_node, without_node, unit_at, open_at, stuck_at}
+use Rattle.search_board.specs.Board.{Shown, no_nodes, blank, kind_at, truth_at, asserted_at, places_at, place_at, with_truth, with_asserted, with_place, with_node, without_node, unit_at, open_at, stuck_at}
+use Rattle.search_board.specs.declared.sets.Sets.{Sets}
+use Rattle.search_board.specs.Sets.{AreAlike, IsWider, HaveSameMembers}
 use Rattle.search_board.specs.BoardInside.{no_counts, AreMembers, IsSoundBoard}
 
 -- ---- reads after a write
@@ -380,3 +383,74 @@ module _ (room : ℕ) (shown : Shown) (counts : List Counts) (units opens stuck 
     where
       before_or_not : (m : ℕ) → (m < n) ⊎ (n ≤ m)
       before_or_not m = search arith
+
+-- ---- the room grows
+
+below_or_not : (h : ℕ) → (h < 32) ⊎ (32 ≤ h)
+below_or_not h = search arith
+
+pub height_small : (h : ℕ) → 2 ^ h < 2 ^ 32 → h < 32
+height_small h small = elim (below_or_not h) [
+  | inl lt ↦ lt
+  | inr past ↦ let more : 2 ^ 32 ≤ 2 ^ h = pow-le-pow_right {n = 2} (lit< tt) {i = 32} {j = h} past in absurd (omega (arith, small, more))
+]
+
+pub height_fits : (h : ℕ) → h < 32 → 2 ^ h < 2 ^ 32
+height_fits h lt = let more : 2 ^ h ≤ 2 ^ 31 = pow-le-pow_right {n = 2} (lit< tt) {i = h} {j = 31} (omega arith) in omega (arith, more)
+
+pub alike_of : (sets : Sets) (shown : Shown) (counts : List Counts) → IsSoundBoard (2 ^ sets.height) shown counts sets.units sets.opens sets.stuck → AreAlike sets
+alike_of sets shown counts sound = record {
+  few = height_small sets.height sound.small;
+  units = sound.units.room;
+  opens = sound.opens.room;
+  stuck = sound.stuck.room;
+}
+
+-- with the same members and more room it is as sound
+pub sound_wider : (old new : Sets) (shown : Shown) (counts : List Counts) → IsSoundBoard (2 ^ old.height) shown counts old.units old.opens old.stuck → AreAlike new → IsWider old new → length shown.kinds < 2 ^ new.height
+    → IsSoundBoard (2 ^ new.height) shown counts new.units new.opens new.stuck
+sound_wider old new shown counts sound alike wider lt = record {
+  aligned = sound.aligned;
+  within = omega (arith, lt);
+  small = height_fits new.height alike.few;
+  len = sound.len;
+  counted = sound.counted;
+  units = record { room = alike.units; are = λ n. wider.units n ∙ sound.units.are n };
+  opens = record { room = alike.opens; are = λ n. wider.opens n ∙ sound.opens.are n };
+  stuck = record { room = alike.stuck; are = λ n. wider.stuck n ∙ sound.stuck.are n };
+}
+
+-- ---- sets with twice the room
+
+get_more : (xs : List Bool) (count n : ℕ) → slice_index_or (xs ++ replicate count false) n false ≡ slice_index_or xs n false
+get_more [] count n = elim (less_or_not n count) [
+  | inl lt ↦ get_or-replicate count n false false lt
+  | inr past ↦ get_or_past (replicate count false) n false (omega (arith, past, length-replicate count false))
+]
+  where
+    less_or_not : (n m : ℕ) → (n < m) ⊎ (m ≤ n)
+    less_or_not n m = search arith
+get_more (x ∷ xs) count zero = refl
+get_more (x ∷ xs) count (suc n) = get_more xs count n
+
+pub same_members : (xs ys : List Bool) (count : ℕ) → ys ≡ xs ++ replicate count false → HaveSameMembers xs ys
+same_members xs ys count is n = ap (λ (zs : List Bool). slice_index_or zs n false) is ∙ get_more xs count n
+
+pub length_more : (xs ys : List Bool) (all : ℕ) → length xs ≤ all → ys ≡ xs ++ replicate (all - length xs) false → length ys ≡ all
+length_more xs ys all fits is = omega (arith, ap length is, length-append xs (replicate (all - length xs) false), length-replicate (all - length xs) false, fits)
+
+pub one_more_fits : (h : ℕ) → 2 ^ h ≤ 2 ^ (h + 1)
+one_more_fits h = pow-le-pow_right {n = 2} (lit< tt) {i = h} {j = h + 1} (omega arith)
+
+-- without nodes there are no members
+pub sound_none : (h : ℕ) (units opens stuck : List Bool) → h < 32 → units ≡ replicate (2 ^ h) false → opens ≡ replicate (2 ^ h) false → stuck ≡ replicate (2 ^ h) false → IsSoundBoard (2 ^ h) no_nodes [] units opens stuck
+sound_none h units opens stuck few units_are opens_are stuck_are = record {
+  aligned = record { truths = refl; asserted = refl; places = refl; few = omega arith; few_places = λ n. omega arith };
+  within = omega arith;
+  small = height_fits h few;
+  len = refl;
+  counted = λ n lt. absurd (omega (arith, lt));
+  units = record { room = ap length units_are ∙ length-replicate (2 ^ h) false; are = λ n. ap (λ (set : List Bool). slice_index_or set n false) units_are ∙ get_more [] (2 ^ h) n };
+  opens = record { room = ap length opens_are ∙ length-replicate (2 ^ h) false; are = λ n. ap (λ (set : List Bool). slice_index_or set n false) opens_are ∙ get_more [] (2 ^ h) n };
+  stuck = record { room = ap length stuck_are ∙ length-replicate (2 ^ h) false; are = λ n. ap (λ (set : List Bool). slice_index_or set n false) stuck_are ∙ get_more [] (2 ^ h) n };
+}

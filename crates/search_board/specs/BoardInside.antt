@@ -18,9 +18,9 @@ shown_of inside = record {
 abbrev pub no_counts : Counts
 no_counts = record { yes = 0; no = 0; left = 0; fresh = 0 }
 
--- exactly the numbers that pass the test are members, and there is room for so many
+-- exactly the numbers that pass the test are members, and the set is of the numbers below so many
 pub record AreMembers (count : ℕ) (test : ℕ → Bool) (set : List Bool) : Type 0 where
-  pub room : count ≤ length set
+  pub room : length set ≡ count
   pub are : (n : ℕ) → slice_index_or set n false ≡ test n
 
 -- the counts are those of the places, and the sets those of the tests
@@ -38,4 +38,5 @@ pub record IsSoundBoard (room : ℕ) (shown : Shown) (counts : List Counts)
 -- the fields are right
 abbrev pub IsSound : Inside → Type 0
 IsSound inside =
-    IsSoundBoard inside.room (shown_of inside) inside.counts.items inside.units inside.opens inside.stuck
+    IsSoundBoard (2 ^ inside.sets.height) (shown_of inside) inside.counts.items inside.sets.units inside.sets.opens
+    inside.sets.stuck

@@ -1,5 +1,6 @@
 pub mod Values
 pub mod Places
 pub mod Board
+pub mod Sets
 pub mod BoardInside
 pub mod Undo

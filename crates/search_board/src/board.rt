@@ -6,25 +6,22 @@ ghost use Rattle.search_board.specs.Places.{counts_of};
 use crate::counts::{Counts, counts_more, counts_with};
 use crate::kind::Kind;
 use crate::place::Place;
+use crate::sets::Sets;
 use crate::tests_of::{is_open, is_stuck, is_unit};
 use formula_truth::Truth;
 use search_list::ShortList;
-use search_set::LeastSet;
 use std::alloc::{AllocError, Global};
 use std::marker::Model;
 
 /// Nodes by number with their values, and what their places were told.
 #[derive(Drop)]
 pub struct Board {
-    room: u32,
     kinds: Vec<Kind>,
     truths: Vec<Truth>,
     asserted: Vec<bool>,
     places: Vec<ShortList<Place>>,
     counts: Vec<Counts>,
-    units: LeastSet,
-    opens: LeastSet,
-    stuck: LeastSet,
+    sets: Sets,
 }
 
 impl Model for Board {
@@ -40,27 +37,26 @@ impl Model for Board {
 }
 
 impl Board {
-    /// A board without nodes, for 2 to the power of the height of them.
+    /// A board without nodes, with room at first for 2 to the power of the height of them. A refusal is want of memory.
     pub fn new(alloc: Global, height: u32) -> Result<Board, AllocError>
         requires { height < 32 }
         ensures { IfOk result (λ board. board ≡ no_nodes) }
     {
         Ok(Board {
-            room: 1u32 << height,
             kinds: Vec::new(alloc),
             truths: Vec::new(alloc),
             asserted: Vec::new(alloc),
             places: Vec::new(alloc),
             counts: Vec::new(alloc),
-            units: LeastSet::new(alloc, height)?,
-            opens: LeastSet::new(alloc, height)?,
-            stuck: LeastSet::new(alloc, height)?,
+            sets: Sets::new(alloc, height)?,
         })
     }
 
-    /// Enters a node, which isn't asserted. Without memory, or where there is no room, all is as before.
+    /// Enters a node, which isn't asserted; where the room is used up it is doubled first. A refusal is want of memory, or of
+    /// room past 2 to the power of 31 nodes, and all is as before then.
     pub fn enter(
         &mut self,
+        alloc: Global,
         kind: Kind,
         truth: Truth,
         places: ShortList<Place>,
@@ -69,9 +65,7 @@ impl Board {
         ensures err { OnErr result (self.new ≡ self.old) }
     {
         let len = self.kinds.len();
-        if len >= self.room as usize {
-            return Err(AllocError);
-        }
+        self.sets.make_room(alloc, len)?;
         let counts = count_places(&places);
         let entry = Entry {
             kind,
@@ -105,9 +99,9 @@ impl Board {
         ensures { self.new ≡ without_node self.old }
     {
         let n = (self.kinds.len() - 1) as u32;
-        self.units.set(n, false);
-        self.opens.set(n, false);
-        self.stuck.set(n, false);
+        self.sets.units.set(n, false);
+        self.sets.opens.set(n, false);
+        self.sets.stuck.set(n, false);
         let _kind = self.kinds.pop();
         let _truth = self.truths.pop();
         let _asserted = self.asserted.pop();
@@ -181,8 +175,10 @@ impl Board {
         let asserted = self.asserted[n as usize];
         let counts = self.counts[n as usize];
         self.truths[n as usize] = truth;
-        self.units.set(n, is_unit(kind, truth, asserted, counts));
-        self.opens.set(n, is_open(kind, truth, asserted));
+        self.sets
+            .units
+            .set(n, is_unit(kind, truth, asserted, counts));
+        self.sets.opens.set(n, is_open(kind, truth, asserted));
     }
 
     /// Says whether a node is asserted. Takes no memory.
@@ -194,9 +190,11 @@ impl Board {
         let truth = self.truths[n as usize];
         let counts = self.counts[n as usize];
         self.asserted[n as usize] = asserted;
-        self.units.set(n, is_unit(kind, truth, asserted, counts));
-        self.opens.set(n, is_open(kind, truth, asserted));
-        self.stuck.set(n, is_stuck(kind, asserted, counts));
+        self.sets
+            .units
+            .set(n, is_unit(kind, truth, asserted, counts));
+        self.sets.opens.set(n, is_open(kind, truth, asserted));
+        self.sets.stuck.set(n, is_stuck(kind, asserted, counts));
     }
 
     /// Changes a place of a node. Takes no memory.
@@ -213,29 +211,31 @@ impl Board {
         let list = &mut self.places[n as usize];
         list.set(i, place);
         self.counts[n as usize] = counts;
-        self.units.set(n, is_unit(kind, truth, asserted, counts));
-        self.stuck.set(n, is_stuck(kind, asserted, counts));
+        self.sets
+            .units
+            .set(n, is_unit(kind, truth, asserted, counts));
+        self.sets.stuck.set(n, is_stuck(kind, asserted, counts));
     }
 
     /// The first asserted disjunction that is a unit by what its places were told.
     pub fn first_unit(&self) -> Option<u32>
         ensures { MatchOption result (NonePasses (unit_at self.now)) (IsFirstPassing (unit_at self.now)) }
     {
-        self.units.first()
+        self.sets.units.first()
     }
 
     /// The first asserted disjunction without a Yes part by what its places were told.
     pub fn first_open(&self) -> Option<u32>
         ensures { MatchOption result (NonePasses (open_at self.now)) (IsFirstPassing (open_at self.now)) }
     {
-        self.opens.first()
+        self.sets.opens.first()
     }
 
     /// The first asserted disjunction with nothing left over by what its places were told.
     pub fn first_stuck(&self) -> Option<u32>
         ensures { MatchOption result (NonePasses (stuck_at self.now)) (IsFirstPassing (stuck_at self.now)) }
     {
-        self.stuck.first()
+        self.sets.stuck.first()
     }
 }
 

@@ -7,6 +7,7 @@ pub mod change;
 pub mod counts;
 pub mod kind;
 pub mod place;
+mod sets;
 pub mod tests_of;
 pub mod undo;
 

@@ -1,8 +1,8 @@
 -- Trees of marks.
-use Rattle.std.proofs.Common.{◌≡◌, ℕ, zero, suc, ◌+◌, ◌*◌, ◌^◌, ◌/◌, ◌-◌, ◌<◌, ◌≤◌, ◌⊎◌, inl, inr, Bool, true, false, ◌||◌, if◌then◌else◌, List, length, drop, replicate, length-drop, slice_index_or, slice_set, refl, sym, ap, subst, ◌∙◌, arith}
+use Rattle.std.proofs.Common.{◌≡◌, ℕ, zero, suc, ◌+◌, ◌*◌, ◌^◌, ◌/◌, ◌-◌, ◌<◌, ◌≤◌, ◌⊎◌, inl, inr, Bool, true, false, ◌||◌, if◌then◌else◌, List, [], ◌∷◌, ◌++◌, length, take, drop, replicate, length-append, append_assoc, length-drop, slice_index_or, slice_set, refl, sym, ap, subst, ◌∙◌, arith}
 use Rattle.std.proofs.lemmas.Grind.{common_steps}
 use Rattle.std.proofs.lemmas.Nat.{pow_pos}
-use Rattle.std.proofs.lemmas.List.{drop-set-add, get_or-drop, get_or-replicate, get_or_past}
+use Rattle.std.proofs.lemmas.List.{drop-set-add, get_or-drop, get_or-replicate, get_or_past, length-take, take_all, take_more, replicate-append-replicate}
 use Rattle.std.proofs.Math.ListN.{length-set, length-replicate}
 use Rattle.std.proofs.Math.Nat.{le-mul_of_pos_right, pow-suc, mul_comm}
 use Rattle.search_set.specs.Tree.{IsTree, IsJoint, IsLeastFrom}
@@ -183,3 +183,71 @@ tree_none height = record {
 
     or_of : {a b : Bool} → a ≡ false → b ≡ false → (a || b) ≡ false
     or_of p q = cc
+
+-- ---- a set that takes over the members of another, number by number
+
+pub set_what_is : (xs : List Bool) (i : ℕ) (v : Bool) → slice_index_or xs i false ≡ v → slice_set xs i v ≡ xs
+set_what_is [] i v e = refl
+set_what_is (x ∷ xs) zero v e = ap (λ y. y ∷ xs) (sym e)
+set_what_is (x ∷ xs) (suc i) v e = ap (λ ys. x ∷ ys) (set_what_is xs i v e)
+
+set_behind : (xs ys : List Bool) (v : Bool) → slice_set (xs ++ ys) (length xs) v ≡ xs ++ slice_set ys 0 v
+set_behind [] ys v = refl
+set_behind (x ∷ xs) ys v = ap (λ zs. x ∷ zs) (set_behind xs ys v)
+
+get_behind : (xs ys : List Bool) (k : ℕ) → k ≡ length xs + 0 → slice_index_or (xs ++ ys) k false ≡ slice_index_or ys 0 false
+get_behind [] ys zero e = refl
+get_behind [] ys (suc k) e = absurd (omega (arith, e))
+get_behind (x ∷ xs) ys zero e = absurd (omega (arith, e))
+get_behind (x ∷ xs) ys (suc k) e = get_behind xs ys k (omega (arith, e))
+
+-- the members below a number, and room for the others
+abbrev pub over_below : List Bool → ℕ → ℕ → List Bool
+over_below xs all k = take k xs ++ replicate (all - k) false
+
+pub over_off : (xs : List Bool) (all k : ℕ) → k < length xs → length xs ≤ all → slice_index_or (over_below xs all k) k false ≡ false
+over_off xs all k h fits =
+    let front : length (take k xs) ≡ k = omega (arith, length-take k xs) in
+    let at : k ≡ length (take k xs) + 0 = omega (arith, front) in
+    get_behind (take k xs) (replicate (all - k) false) k at ∙ get_or-replicate (all - k) 0 false false (omega arith)
+
+pub over_length : (xs : List Bool) (all k : ℕ) → k ≤ length xs → length xs ≤ all → length (over_below xs all k) ≡ all
+over_length xs all k h fits = omega (arith, length-append (take k xs) (replicate (all - k) false), length-take k xs, length-replicate (all - k) false)
+
+pub over_more : (xs : List Bool) (all k : ℕ) → k < length xs → length xs ≤ all → slice_set (over_below xs all k) k (slice_index_or xs k false) ≡ over_below xs all (k + 1)
+over_more xs all k h fits =
+    let v = slice_index_or xs k false in
+    let front : length (take k xs) ≡ k = omega (arith, length-take k xs) in
+    let rest : all - k ≡ 1 + (all - (k + 1)) = omega arith in
+    ap (λ (i : ℕ). slice_set (over_below xs all k) i v) (sym front)
+    ∙ set_behind (take k xs) (replicate (all - k) false) v
+    ∙ ap (λ (n : ℕ). take k xs ++ slice_set (replicate n false) 0 v) rest
+    ∙ ap (λ (ys : List Bool). take k xs ++ slice_set ys 0 v) (sym (replicate-append-replicate 1 (all - (k + 1)) false))
+    ∙ sym (append_assoc (take k xs) (v ∷ []) (replicate (all - (k + 1)) false))
+    ∙ ap (λ (ys : List Bool). ys ++ replicate (all - (k + 1)) false) (sym (take_more xs k false h))
+
+pub over_first : (xs : List Bool) (all : ℕ) → over_below xs all 0 ≡ replicate all false
+over_first [] all = ap (λ (n : ℕ). replicate n false) (same all)
+  where
+    same : (n : ℕ) → n - 0 ≡ n
+    same n = omega arith
+over_first (x ∷ xs) all = ap (λ (n : ℕ). replicate n false) (same all)
+  where
+    same : (n : ℕ) → n - 0 ≡ n
+    same n = omega arith
+
+pub over_last : (xs : List Bool) (all : ℕ) → over_below xs all (length xs) ≡ xs ++ replicate (all - length xs) false
+over_last xs all = ap (λ (ys : List Bool). ys ++ replicate (all - length xs) false) (take_all (length xs) xs (omega arith))
+
+same_default : (xs : List Bool) (i : ℕ) (d e : Bool) → i < length xs → slice_index_or xs i d ≡ slice_index_or xs i e
+same_default [] i d e h = absurd (omega arith)
+same_default (x ∷ xs) zero d e h = refl
+same_default (x ∷ xs) (suc i) d e h = same_default xs i d e (omega arith)
+
+-- a mark at the bottom tells whether its number is a member
+pub mark_is : (set marks : List Bool) (room k : ℕ) (v : Bool) → drop room marks ≡ set → v ≡ slice_index_or marks (room + k) v → k < length set → v ≡ slice_index_or set k false
+mark_is set marks room k v is at h = at ∙ sym (get_or-drop room marks k v) ∙ ap (λ (xs : List Bool). slice_index_or xs k v) is ∙ same_default set k v false h
+
+-- as many numbers as the tree has places at the bottom
+pub room_is : (set marks : List Bool) (height room : ℕ) → IsTree marks height → room ≡ 2 ^ height → drop room marks ≡ set → length set ≡ room
+room_is set marks height room tree e is = omega (arith, ap length is, length-drop room marks, tree.len, e)

@@ -1,5 +1,5 @@
 //! A set of numbers below a bound, with its least member at hand.
-ghost use Rattle.std.specs.Prelude.{◌≡◌, ℕ, ◌+◌, ◌^◌, ◌<◌, ◌≤◌, Bool, false, true, length, slice_index_or, slice_set, IfOk, MatchOption, replicate};
+ghost use Rattle.std.specs.Prelude.{◌≡◌, ℕ, ◌+◌, ◌-◌, ◌^◌, ◌++◌, ◌<◌, ◌≤◌, Bool, false, true, length, slice_index_or, slice_set, IfOk, MatchOption, replicate};
 ghost use Rattle.search_set.specs.Members.{IsLeast, HasNone};
 
 use crate::tree::{first_mark, set_mark};
@@ -26,6 +26,17 @@ impl Model for LeastSet {
     ghost invariant = { IsSound };
 }
 
+/// Puts a number in that is no member, if so asked.
+fn put_if(set: &mut LeastSet, number: u32, on: bool)
+    requires within { number < length set.old }
+    requires off { slice_index_or set.old number false ≡ false }
+    ensures { set.new ≡ slice_set set.old number on }
+{
+    if on {
+        set.set(number, true);
+    }
+}
+
 impl LeastSet {
     /// A set without members, for the numbers below 2 to the power of the height. A refusal is want of memory.
     pub fn new(alloc: Global, height: u32) -> Result<LeastSet, AllocError>
@@ -42,6 +53,21 @@ impl LeastSet {
             room,
             marks,
         })
+    }
+
+    /// The same members in a set of the numbers below 2 to the power of this height, which are no fewer. A refusal is want of
+    /// memory.
+    pub fn with_room(&self, alloc: Global, height: u32) -> Result<LeastSet, AllocError>
+        requires height { height < 32 }
+        requires room { length self.now ≤ 2 ^ height }
+        ensures { IfOk result (λ set. set ≡ self.now ++ replicate (2 ^ height - length self.now) false) }
+    {
+        let _height = self.height;
+        let mut set = LeastSet::new(alloc, height)?;
+        for number in 0..self.room {
+            put_if(&mut set, number as u32, self.marks[self.room + number]);
+        }
+        Ok(set)
     }
 
     /// Puts a number in, or takes it out. It takes no memory.

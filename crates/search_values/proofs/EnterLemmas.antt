@@ -189,16 +189,16 @@ truth_is_last s kind truth places n e = get_last s.truths truth Unset n e
 pub places_last : (s : Shown) (kind : Kind) (truth : Truth) (places : List Place) (n : ℕ) → n ≡ length s.places → places_at (with_node s kind truth places) n ≡ places
 places_last s kind truth places n e = get_last s.places places [] n e
 
--- a node that comes last with Unset, and gets the value that its places tell then, is entered
-pub entered_by : (wires after : Wires) (s : Shown) (parts : List ℕ) (kind : Kind) (places : List Place) (n : ℕ) (value : Truth) → after.parts ≡ wires.parts ++ parts ∷ [] → ArePlaces s parts places → length places < 2 ^ 32 → AreAligned s → n ≡ length s.kinds
-    → value ≡ value_at (with_node s kind Unset places) n → Enters wires after s parts kind value places
-entered_by wires after s parts kind places n value grows told few aligned e is =
+-- a node that comes last with Unset, and gets the value that its places tell then, comes with that value
+pub entered_with : (s : Shown) (kind : Kind) (places : List Place) (n : ℕ) (value : Truth) → AreAligned s → n ≡ length s.kinds → value ≡ value_at (with_node s kind Unset places) n
+    → with_truth (with_node s kind Unset places) n value ≡ with_node s kind (value_of kind (told_by places) Unset) places
+entered_with s kind places n value aligned e is =
     let k = kind_last s kind Unset places n e in
     let p = places_last s kind Unset places n (e ∙ sym aligned.places) in
     let t = truth_is_last s kind Unset places n (e ∙ sym aligned.truths) in
     let v : value ≡ value_of kind (told_by places) Unset = is ∙ ap (λ (x : Kind). value_of x (told_by (places_at (with_node s kind Unset places) n)) (truth_at (with_node s kind Unset places) n)) k
     ∙ ap (λ (x : List Place). value_of kind (told_by x) (truth_at (with_node s kind Unset places) n)) p ∙ ap (value_of kind (told_by places)) t in
-    record { grows = grows; told = told; few = few; value = v }
+    truth_last s kind Unset value places n (e ∙ sym aligned.truths) ∙ ap (λ (t : Truth). with_node s kind t places) v
 
 pub none_struck_more : (places : List Place) (place : Place) → place.struck ≡ false → NoneStruck places → NoneStruck (places ++ place ∷ [])
 none_struck_more places place off none i = elim (order i (length places)) [

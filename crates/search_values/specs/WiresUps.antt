@@ -1,12 +1,14 @@
 -- Places of a node that are put behind the ups of its parts.
-use Rattle.std.specs.Prelude.{◌≡◌, ℕ, ◌⊎◌, ◌<◌, List, [], length, slice_index_or, Contains}
+use Rattle.std.specs.Prelude.{◌≡◌, ℕ, ◌++◌, List, [], length, slice_index_or, take}
 use Rattle.search_values.specs.declared.up.Up.{Up}
-use Rattle.search_values.specs.Wiring.{up}
+use Rattle.search_values.specs.Wiring.{places_with}
 
--- the first so many places of the node were put, each behind the ups of its part, and nothing else
-pub record WiresUps (old new : List (List Up)) (parts : List ℕ) (n count : ℕ) : Type 0 where
-  pub len : length new ≡ length old
-  pub stay : (m : ℕ) (u : Up) → Contains (slice_index_or old m []) u → Contains (slice_index_or new m []) u
-  pub listed : (i : ℕ) → i < count → Contains (slice_index_or new (slice_index_or parts i 0) []) (up n i)
-  pub only : (m : ℕ) (u : Up) → Contains (slice_index_or new m []) u → Contains (slice_index_or old m []) u
-      ⊎ ((i : ℕ) × (i < count) × (slice_index_or parts i 0 ≡ m) × (up n i ≡ u))
+-- the first so many places of the node stand behind the ups that were there, each behind those of its part
+pub record WiresUps (base : ℕ → List Up) (len : ℕ) (ups : List (List Up)) (parts : List ℕ) (n count : ℕ) : Type 0
+  where
+    pub len_is : length ups ≡ len
+    pub are : (m : ℕ) → slice_index_or ups m [] ≡ base m ++ places_with m n 0 (take count parts)
+
+-- what the ups of each node are
+abbrev pub ups_in : List (List Up) → ℕ → List Up
+ups_in ups m = slice_index_or ups m []

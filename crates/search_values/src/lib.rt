@@ -5,6 +5,7 @@
 #![tactic(auto)]
 
 pub mod changing;
+mod entering;
 pub mod left;
 pub mod node_values;
 pub mod noted;

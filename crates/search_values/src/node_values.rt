@@ -5,17 +5,15 @@ ghost use Rattle.search_board.specs.declared.kind.Kind.TheVariants.{Leaf};
 ghost use Rattle.search_values.specs.Given.{HasValue, HasPlace, HasYesPart, kind_of, parts_of, part_of, IsAssertedOr, IsFirstUnit, IsUnit, IsOpen, IsSplit, IsStuck};
 ghost use Rattle.search_values.specs.Changes.{SetsLeaf, Asserts, Strikes, EntersNode};
 ghost use Rattle.search_values.specs.Kept.{given_of, no_values, pushed, popped, IsStacked};
-ghost use Rattle.search_values.specs.Entered.{ArePlaces, NoneStruck};
 
 use crate::left::first_left;
 use crate::noted::Noted;
 use crate::up::Up;
-use crate::value::value_at;
 use crate::wiring::Wiring;
 use formula_truth::Truth;
 use formula_truth::laws::joining_law;
 use graph_trail::Trail;
-use search_board::{Board, Kind, Place};
+use search_board::{Board, Kind};
 use search_list::ShortList;
 use std::alloc::{AllocError, Global};
 use std::marker::Model;
@@ -43,30 +41,8 @@ impl Model for NodeValues {
     ghost invariant = { IsKept };
 }
 
-/// Places that tell what these parts are.
-fn told_places(
-    alloc: Global,
-    board: &Board,
-    parts: &ShortList<u32>,
-) -> Result<ShortList<Place>, AllocError>
-    requires { All (λ part. part < length board.now.kinds) parts.now }
-    ensures told { IfOk result (λ places. ArePlaces board.now parts.now places) }
-    ensures none_struck { IfOk result (λ places. NoneStruck places) }
-{
-    let mut places = ShortList::new(alloc);
-    for i in 0..parts.len() {
-        let part = parts.get(i);
-        places.push(Place {
-            told: board.truth(part),
-            taken: board.asserted(part),
-            struck: false,
-        })?;
-    }
-    Ok(places)
-}
-
 impl NodeValues {
-    /// No nodes, with room for 2 to the power of the height of them. A refusal is want of memory.
+    /// No nodes, with room at first for 2 to the power of the height of them. A refusal is want of memory.
     pub fn new(alloc: Global, height: u32) -> Result<NodeValues, AllocError>
         requires { height < 32 }
         ensures { IfOk result (λ values. values ≡ no_values) }
@@ -92,9 +68,17 @@ impl NodeValues {
         ensures err { OnErr result (self.new ≡ self.old) }
         ensures saved { self.new.saved ≡ self.old.saved }
     {
-        let _kind = kind;
-        let _parts = parts;
-        Err(AllocError)
+        let mark = self.noted.trail.mark();
+        match self
+            .noted
+            .try_node(self.alloc, &mut self.wiring, kind, parts)
+        {
+            Ok(()) => Ok(()),
+            Err(fault) => {
+                self.noted.back_to(mark);
+                Err(fault)
+            }
+        }
     }
 
     /// How many nodes there are.
@@ -263,6 +247,7 @@ impl NodeValues {
     {
         if let Some(mark) = self.levels.pop() {
             self.noted.back_to(mark);
+            self.wiring.cut(self.noted.board.len());
         }
     }
 }

@@ -7,7 +7,7 @@ use formula_truth::Truth;
 use graph_trail::Trail;
 use search_board::{Board, Change, Kind, Place};
 use search_list::ShortList;
-use std::alloc::AllocError;
+use std::alloc::{AllocError, Global};
 
 /// A board with the trail of its changes.
 #[derive(Drop)]
@@ -39,9 +39,10 @@ impl Noted {
         }
     }
 
-    /// Enters a node, which isn't asserted. Without memory, or where there is no room, all is as before.
+    /// Enters a node, which isn't asserted. A refusal is want of memory or of room, and all is as before then.
     pub fn enter(
         &mut self,
+        alloc: Global,
         kind: Kind,
         truth: Truth,
         places: ShortList<Place>,
@@ -51,7 +52,7 @@ impl Noted {
         ensures history { KeepsHistory self.old self.new }
     {
         let _count = self.board.len();
-        self.board.enter(kind, truth, places)?;
+        self.board.enter(alloc, kind, truth, places)?;
         match self.trail.note(Change::Entered) {
             Ok(()) => Ok(()),
             Err(_refused) => {

@@ -1,4 +1,4 @@
-use Rattle.std.proofs.Common.{◌≡◌, ◌<◌, ◌-◌, ℕ, take, length, vec_len, ap, sym, subst, ◌∙◌, arith}
+use Rattle.std.proofs.Common.{◌≡◌, ◌<◌, ◌-◌, ◌^◌, ℕ, take, length, vec_len, ap, sym, subst, ◌∙◌, arith}
 use Rattle.search_board.specs.Board.{Shown}
 use Rattle.search_board.specs.BoardInside.{shown_of}
 use Rattle.search_board.proofs.BoardLemmas.{sound_drop}
@@ -10,7 +10,7 @@ invariant_of-self c =
     let shown = shown_of c.self.inside in
     let some : 0 < length c.self.inside.kinds.items = subst (λ (s : Shown). 0 < length s.kinds) (sym c.self.view_is) c.requires in
     let n : length c.self.inside.kinds.items - 1 ≡ c.len.result - 1 = omega (arith, c.len.ensures, c.self.inside.kinds.ok) in
-    let done = sound_drop c.self.inside.room shown c.self.inside.counts.items c.self.inside.units c.self.inside.opens c.self.inside.stuck sound (c.len.result - 1) n some in
+    let done = sound_drop (2 ^ c.self.inside.sets.height) shown c.self.inside.counts.items c.self.inside.sets.units c.self.inside.sets.opens c.self.inside.sets.stuck sound (c.len.result - 1) n some in
     let kinds_len : vec_len c.self.inside.kinds ≡ length c.self.inside.kinds.items = omega (arith, c.self.inside.kinds.ok) in
     let kinds_are = c.pop-kind.ensures.rest ∙ ap (λ (k : ℕ). take (k - 1) c.self.inside.kinds.items) kinds_len in
     let truths_len : vec_len c.self.inside.truths ≡ length c.self.inside.kinds.items = omega (arith, c.self.inside.truths.ok, sound.aligned.truths) in

@@ -1,4 +1,4 @@
-use Rattle.std.proofs.Common.{◌<◌, List, [], length, false, slice_set, slice_index_or, refl, sym, ap, subst, ◌∙◌, arith}
+use Rattle.std.proofs.Common.{◌<◌, ◌^◌, List, [], length, false, slice_set, slice_index_or, refl, sym, ap, subst, ◌∙◌, arith}
 use Rattle.search_board.specs.declared.kind.Kind.TheVariants.{Leaf}
 use Rattle.formula_truth.specs.declared.truth.Truth.TheVariants.{Unset}
 use Rattle.search_board.specs.declared.place.Place.{Place}
@@ -36,7 +36,7 @@ invariant_of-self c =
     let kind = c.index-kind.ensures ∙ same_default c.self.inside.kinds.items c.args.n c.index-kind.result.now Leaf lt in
     let truth = c.index-truth.ensures ∙ same_default c.self.inside.truths.items c.args.n c.index-truth.result.now Unset (omega (arith, sound.aligned.truths)) in
     let asserted = c.index-asserted.ensures ∙ same_default c.self.inside.asserted.items c.args.n c.index-asserted.result.now false (omega (arith, sound.aligned.asserted)) in
-    let done = sound_place c.self.inside.room shown c.self.inside.counts.items c.self.inside.units c.self.inside.opens c.self.inside.stuck sound c.args.n lt c.args.i c.args.place c.counts_with-counts.result c.is_unit.result c.is_stuck.result inside after
+    let done = sound_place (2 ^ c.self.inside.sets.height) shown c.self.inside.counts.items c.self.inside.sets.units c.self.inside.sets.opens c.self.inside.sets.stuck sound c.args.n lt c.args.i c.args.place c.counts_with-counts.result c.is_unit.result c.is_stuck.result inside after
     (c.is_unit.ensures ∙ unit_same kind truth asserted refl) (c.is_stuck.ensures ∙ stuck_same kind asserted refl) in
     let places = c.set.ensures ∙ ap (λ (xs : List Place). slice_set xs c.args.i c.args.place) list' in
     rw (c.set-2.ensures, c.set-3.ensures, places) done

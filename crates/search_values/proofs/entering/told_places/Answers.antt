@@ -3,7 +3,7 @@ use Rattle.search_board.specs.declared.place.Place.{Place}
 use Rattle.search_values.specs.Entered.{ArePlaces, NoneStruck}
 use Rattle.search_values.proofs.EnterLemmas.{places_more, none_struck_more}
 use Rattle.search_values.proofs.WireLemmas.{get_some}
-use Rattle.search_values.proofs.node_values.told_places.Goals as goal
+use Rattle.search_values.proofs.entering.told_places.Goals as goal
 
 pub loop-i-preserved : goal.loop-i-preserved
 loop-i-preserved c =
