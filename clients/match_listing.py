@@ -31,6 +31,9 @@ class Listing:
     def is_at_error(self):
         return self.text.startswith('(error "', self.offset)
 
+    def is_at_verdict(self):
+        return re.compile(r"(sat|unsat|unknown)\n").match(self.text, self.offset) is not None
+
     def fault(self, what):
         at_end = self.is_at_end()
         return ListingFault(None if at_end else self.text.count("\n", 0, self.offset) + 1, what)

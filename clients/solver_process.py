@@ -39,14 +39,18 @@ class SolverProcess:
             verdict = self._line(deadline)
             if verdict in ("sat", "unsat"):
                 return verdict
-            if verdict == "unknown":
-                self._write(["(get-info :reason-unknown)"])
-                answer = self._line(deadline) or ""
-                self.reason = "rounds" if "rounds" in answer else self.reason
+            if verdict == "unknown" and self._has_told_why():
                 return verdict
             self.reason = verdict if verdict is not None else self.reason
         self.end()
         return "unknown"
+
+    def _has_told_why(self):
+        """Asks why the verdict was `unknown`; whether the answer came."""
+        answer = self._line(None) if self._write(["(get-info :reason-unknown)"]) else None
+        if answer is not None:
+            self.reason = "rounds" if "rounds" in answer else "incomplete"
+        return answer is not None
 
     def end(self):
         """Ends the run, if there is one."""
