@@ -49,10 +49,13 @@ class Listing:
         return line
 
     def rest_of_error(self):
-        """The error that ends the listing, as it stands; a name in it may hold line feeds."""
+        """The error that ends the listing, as it stands; a name in it may hold line feeds. Raises `ListingFault` where it is
+        cut off."""
         rest = self.text[self.offset:]
         self.offset = len(self.text)
-        return rest.rstrip("\n")
+        if not rest.endswith('")\n'):
+            raise self.fault("the listing ends too early")
+        return rest.removesuffix("\n")
 
     def expect(self, line, whose):
         """Reads this line, which is the answer to `whose`."""
