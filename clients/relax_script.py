@@ -29,13 +29,15 @@ class Relaxer:
 
     `command` gives what is to be handed on for each. `report` gives what became of the commands since it was last called.
     `weaker` tells whether something that stands now was dropped or left open, so that `sat` says nothing of the given
-    script. With `is_bare` no axioms of theories are written."""
+    script, and `weaker_at_check` whether this was so at the last check, also one under assumptions. With `is_bare` no
+    axioms of theories are written."""
 
     def __init__(self, is_bare=False):
         self.is_bare = is_bare
         self.lines = []
         self.number = 0
         self.place = ""
+        self.weaker_at_check = False
         self._begin()
         self.heads = {
             "assert": self._assert, "declare-sort": self._declare_sort, "define-sort": self._define_sort,
@@ -114,6 +116,7 @@ class Relaxer:
             return self._level(head, tree, text)
         if head == "check-sat" and len(tree) == 1:
             self._say(head, "as it is")
+            self.weaker_at_check = self.weaker
             return ["(check-sat)"]
         if head == "check-sat-assuming":
             return self._check_assuming(tree)
@@ -174,7 +177,7 @@ class Relaxer:
                 self._careful_state("check-sat-assuming", lambda literal=literal: self.terms.formula(literal))
         commands = ["(push 1)", *self.script.take(), "(check-sat)", "(pop 1)"]
         self._say("check-sat-assuming", "rewritten: a level with the assumptions")
-        self.held_weaker = self.weaker
+        self.weaker_at_check = self.weaker
         self.record.pop(1)
         return self._silent(commands)
 
