@@ -8,7 +8,7 @@ from datatypes import Datatype, DatatypeMember
 from level_record import LevelRecord
 from script_sorts import DeclaredSort, DefinedSort, SortReader
 from script_terms import CORE, Macro, TermReader
-from script_text import (RESERVED, TextFault, is_keyword, is_lawful_text, is_symbol, read_command, write_symbol, write_tree)
+from script_text import (RESERVED, Token, is_keyword, is_lawful_text, is_symbol, read_command, write_symbol, write_tree)
 from theories import Theories, as_term_sort
 from theory_axioms import TheoryAxioms
 from typed_terms import BOOL, LeftOut, NodeMaker, Symbol
@@ -22,6 +22,13 @@ ANSWERED = frozenset("get-assertions get-assignment get-info get-model get-optio
                      "get-unsat-core get-value".split())
 
 sys.setrecursionlimit(max(sys.getrecursionlimit(), 400_000))
+
+
+def at_parameters(tree, names, parameters):
+    """A sort in which the names of datatypes alone get parameters."""
+    if tree in names:
+        return [tree, *parameters]
+    return [at_parameters(part, names, parameters) for part in tree] if isinstance(tree, list) else tree
 
 
 class Relaxer:
@@ -368,16 +375,21 @@ class Relaxer:
         if len(tree) != 3 or not all([isinstance(part, list) for part in tree[1:]]):
             raise LeftOut("a declaration of another form")
         if all([is_symbol(one) for one in tree[1]]):
-            rows = [(one[0], [one[1:], tree[1]]) for one in tree[2] if isinstance(one, list) and one]
-            return self._datatypes([(name, self._with_parameters(parts, names)) for name, (parts, names) in rows])
+            rows = [one for one in tree[2] if isinstance(one, list) and one]
+            names = [one[0] for one in rows]
+            return self._datatypes([(one[0], self._with_parameters(one[1:], tree[1], names)) for one in rows])
         if len(tree[1]) != len(tree[2]) or not all([isinstance(one, list) and len(one) == 2 for one in tree[1]]):
             raise LeftOut("a declaration of another form")
         return self._datatypes([(one[0], body) for one, body in zip(tree[1], tree[2])])
 
-    def _with_parameters(self, constructors, parameters):
-        """The body of a datatype in the older form, in which parameters stand before all datatypes."""
+    def _with_parameters(self, constructors, parameters, names):
+        """The body of a datatype in the older form, in which parameters stand before all datatypes, whose names alone
+        are their sorts at these parameters; `names` are those of the datatypes."""
         listed = [one if isinstance(one, list) else [one] for one in constructors]
-        return [read_command("(par)")[0], parameters, listed] if parameters else listed
+        if not parameters:
+            return listed
+        whole = [[one[0], *[[field[0], at_parameters(field[1], names, parameters)] for field in one[1:]]] for one in listed]
+        return [Token("symbol", "par"), parameters, whole]
 
     def _datatypes(self, rows):
         """Datatypes that may speak of each other, as pairs of name and body."""

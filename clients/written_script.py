@@ -144,8 +144,7 @@ class FormulaText:
         return self._scope(formula, frozenset())
 
     def _scope(self, root, variables):
-        """The text of a part, with a `let` round it for each shared part that can stand here: one whose variables
-        are among these, and outside foralls all of its variables."""
+        """The text of a part, with a `let` round it for each shared part whose variables are among these."""
         counts = {root: 1}
         order = []
         self._count(root, counts, order)
@@ -161,7 +160,7 @@ class FormulaText:
         return "".join(bindings) + text + ")" * len(bindings)
 
     def _can_share(self, node, variables):
-        return node.size >= SHARED_FROM and not node.loose and node.free <= variables
+        return node.size >= SHARED_FROM and node.free <= variables
 
     def _count(self, node, counts, order):
         """Counts how often each part occurs, and lists the parts, each after its own parts."""
