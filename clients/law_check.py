@@ -6,6 +6,7 @@ answered by `z3`. An answer `unknown`, or one that doesn't come in time, counts 
 import subprocess
 from typing import NamedTuple
 
+from random_scripts import ConsistentScript
 from relax_script import Relaxer
 from script_text import CommandCutter, Token, read_command, write_tree
 
@@ -64,6 +65,20 @@ def answers(words, text, seconds):
 def z3_answers(text, milliseconds):
     """The verdicts of `z3`, and lines of errors, if any."""
     return answers(["z3", "-in"], f"(set-option :timeout {milliseconds})\n" + text, 20)
+
+
+def consistent_text(seed):
+    """The script of a seed that has a model, as far as `z3` knows."""
+    with subprocess.Popen(["z3", "-in"], stdin=subprocess.PIPE, stdout=subprocess.PIPE) as z3:
+        def ask(commands):
+            z3.stdin.write(commands.encode("latin-1"))
+            z3.stdin.flush()
+            return z3.stdout.readline().decode("latin-1").rstrip("\n")
+        z3.stdin.write(b"(set-option :timeout 200)\n")
+        text = ConsistentScript(seed, ask).text
+        z3.stdin.close()
+        z3.kill()
+    return text
 
 
 def judge(name, text, program, rounds="4"):

@@ -37,13 +37,16 @@ class RandomScript:
         self.random = random.Random(seed)
         self.formulas = []
         self.count = 0
-        lines = [HEADER]
-        for sort, names in CONSTANTS.items():
-            lines += [f"(declare-const {name} {sort})" for name in names]
         self.levels = 0
-        lines += [self.command() for _ in range(self.random.randint(6, 22))]
-        lines.append("(check-sat)")
-        self.text = "\n".join(lines) + "\n"
+        self.text = "\n".join([*self.beginning(), *self.middle(), "(check-sat)"]) + "\n"
+
+    def beginning(self):
+        """The lines that declare all."""
+        return [HEADER, *[f"(declare-const {name} {sort})" for sort, names in CONSTANTS.items() for name in names]]
+
+    def middle(self):
+        """The lines of the script's own."""
+        return [self.command() for _ in range(self.random.randint(6, 22))]
 
     def pick(self, *choices):
         """One of the choices."""
@@ -222,3 +225,55 @@ class RandomScript:
             "(Maybe U)": lambda: ["(as none (Maybe U))", f"(some {term('U')})"],
             "(Box Int)": lambda: ["box"],
         }[sort]())
+
+
+class ConsistentScript(RandomScript):
+    """A script that has a model and leaves little open: values of constants and functions, and then formulas at random,
+    each asserted or denied as `z3` finds it can be. `ask` takes commands and gives the verdict of the check among them."""
+
+    def __init__(self, seed, ask):
+        self.ask = ask
+        super().__init__(seed)
+
+    def middle(self):
+        """The values, the formulas that fit, and checks among them."""
+        lines = [f"(assert {value})" for value in self.values() if not self.one_in(4)]
+        self.ask("\n".join([*self.beginning(), *lines, "(check-sat)"]) + "\n")
+        for _ in range(self.random.randint(4, 12)):
+            formula = self.formula(self.random.randint(1, 4), {})
+            verdict = self.ask(f"(push 1)\n(assert {formula})\n(check-sat)\n(pop 1)\n")
+            if verdict in ("sat", "unsat"):
+                lines.append(self.asserted(formula, verdict == "sat"))
+                self.ask(lines[-1] + "\n(check-sat)\n")
+                lines += [self.check() for _ in range(self.pick(0, 0, 1))]
+        return lines
+
+    def values(self):
+        """Equations that give values to constants and functions."""
+        digit = lambda: str(self.random.randrange(4))
+        truth = lambda: self.pick("true", "false")
+        facts = [f"(= {name} {digit()})" for name in "abc"] + [f"(= {name} {truth()})" for name in "st"]
+        facts += [f"(= (f {place}) {digit()})" for place in range(4)] + [f"(= (p {place}) {truth()})" for place in range(4)]
+        facts += [self.pick("(distinct u v w)", "(= u v)", "(and (= u w) (distinct u v))")]
+        facts += [f"(= (q {left} {right}) {truth()})" for left in "uv" for right in "uv"]
+        facts += [f"(= (k {value}) {truth()})" for value in ("true", "false")]
+        facts += [f"(= (g {name} {value}) {self.pick('u', 'v', 'w')})" for name in "uv" for value in ("true", "false")]
+        facts += [f"(= {name} {self.pick('red', 'green', 'blue')})" for name in ("hue", "tint")]
+        facts += [f"(= {name} {self.pick('nil', f'(cons {digit()} nil)')})" for name in "lm"]
+        facts += [f"(= couple (pair {self.pick('u', 'v')} {truth()}))", f"(= r {self.pick('0.5', '1.0', '2.0')})"]
+        facts += [f"(= perhaps {self.pick('(as none (Maybe U))', '(some v)')})", f"(= bits {self.pick('#x3', '#xA')})"]
+        facts += [f"(= (select row {digit()}) {digit()})", f"(= (select flags {digit()}) {truth()})"]
+        return facts
+
+    def asserted(self, formula, is_so):
+        """An assertion of a formula or its negation, in one of a few forms."""
+        other = self.formula(1, {})
+        if is_so:
+            return "(assert " + self.pick(formula, formula, f"(not (not {formula}))", f"(or {formula} {other})",
+                                          f"(let ((y {formula})) (ite y y {other}))", f"(= true {formula})") + ")"
+        return "(assert " + self.pick(f"(not {formula})", f"(not {formula})", f"(=> {formula} {other} false)",
+                                      f"(xor true {formula})", f"(distinct true {formula})") + ")"
+
+    def check(self):
+        """A check, at times under assumptions."""
+        return self.pick("(check-sat)", f"(check-sat-assuming ({self.literal()}))")

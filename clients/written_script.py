@@ -30,6 +30,7 @@ class WrittenScript:
         self.maker = maker
         self.commands = []
         self.opened = []
+        self.counts = {}
         self.axioms_of = lambda thing: []
         self.truth = Symbol("holds", [TRUTH], BOOL, "own")
         self.yes = Symbol("yes", [], TRUTH, "own")
@@ -47,13 +48,13 @@ class WrittenScript:
     # Names
 
     def _free_name(self, hint, taken):
-        """The first of `hint`, `hint!2`, `hint!3` and so on that may be declared."""
+        """One of `hint`, `hint!2`, `hint!3` and so on that may be declared; a number is not used again."""
         base = hint if can_be_name(hint) and hint not in CORE_NAMES and hint != "Bool" else "named!" + "".join(
             [letter for letter in hint if letter.isalnum()])
-        name, count = base, 1
+        name = base
         while name in taken:
-            count += 1
-            name = f"{base}!{count}"
+            self.counts[base] = self.counts.get(base, 1) + 1
+            name = f"{base}!{self.counts[base]}"
         return name
 
     def stands_as_given(self, formula):
@@ -137,6 +138,7 @@ class FormulaText:
         self.script = script
         self.names = {}
         self.used = set()
+        self.counts = {}
 
     def whole(self, formula):
         """The text of a closed formula."""
@@ -174,10 +176,11 @@ class FormulaText:
 
     def _new_name(self, hint):
         """A name for a bound variable that hides nothing."""
-        name, count = hint, 1
-        while name in self.used or self.script.is_taken(name) or not can_be_name(name):
-            count += 1
-            name = f"{hint}!{count}" if can_be_name(hint) else f"bound!{count}"
+        base = hint if can_be_name(hint) else "bound"
+        name = base
+        while name in self.used or self.script.is_taken(name):
+            self.counts[base] = self.counts.get(base, 1) + 1
+            name = f"{base}!{self.counts[base]}"
         self.used.add(name)
         return name
 
@@ -205,6 +208,7 @@ class FormulaText:
         bound = [f"({write_symbol(self.names[one])} {write_symbol(self.script.sort_name(one.sort))})" for one in variables]
         patterns = [" :pattern (" + " ".join([self._pattern(pattern) for pattern in one]) + ")" for one in triggers]
         body = self._scope(node.args[0], node.free | frozenset(variables))
+        self.used.difference_update([self.names.pop(variable) for variable in variables])
         return f"(forall ({' '.join(bound)}) (! {body}{''.join(patterns)}))"
 
     def _pattern(self, node):
