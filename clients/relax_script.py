@@ -16,12 +16,21 @@ from weakening import Weakening
 from written_script import MOST_ARGUMENTS, WrittenScript
 
 MOST_LEVELS = 65536
+MOST_VALUE = 1 << 128
 SUCCESS_ON = "(set-option :print-success true)"
 SUCCESS_OFF = "(set-option :print-success false)"
 ANSWERED = frozenset("get-assertions get-assignment get-info get-model get-option get-proof get-unsat-assumptions "
                      "get-unsat-core get-value".split())
 
 sys.setrecursionlimit(max(sys.getrecursionlimit(), 400_000))
+
+
+def is_attribute(trees):
+    """Whether trees are a keyword and perhaps a value that `ematch` takes."""
+    if not 1 <= len(trees) <= 2 or not is_keyword(trees[0]) or is_keyword(trees[-1]) and len(trees) == 2:
+        return False
+    is_numeral = isinstance(trees[-1], Token) and trees[-1].kind == "numeral"
+    return not is_numeral or int(trees[-1].text) < MOST_VALUE
 
 
 def at_parameters(tree, names, parameters):
@@ -133,11 +142,13 @@ class Relaxer:
             return self._option(tree, text)
         if head in ANSWERED or head == "echo":
             self._say(head, "as it is")
-            return [text] if is_lawful_text(text) else ['(echo "")']
+            is_lawful = is_lawful_text(text) and (head != "get-info" or len(tree) == 2 and is_attribute(tree[1:]))
+            return [text] if is_lawful else ['(echo "")']
         if head in ("set-info", "set-logic"):
-            lawful = is_lawful_text(text)
-            self._say(head, "as it is" if lawful else "dropped: bytes that ematch does not take")
-            return self._with_success([text] if lawful else [])
+            is_lawful = len(tree) == 2 and is_symbol(tree[1]) if head == "set-logic" else is_attribute(tree[1:])
+            is_lawful = is_lawful and is_lawful_text(text)
+            self._say(head, "as it is" if is_lawful else "dropped: a form that ematch does not take")
+            return self._with_success([text] if is_lawful else [])
         return self._answer_unsupported(head, "not known: answered by unsupported")
 
     def _option(self, tree, text):
@@ -149,7 +160,8 @@ class Relaxer:
             return [SUCCESS_ON if self.asks_success else SUCCESS_OFF]
         if name == ":global-declarations" and value in ("true", "false"):
             self.is_global = value == "true"
-        return [text] if is_lawful_text(text) else ['(echo "")']
+        is_lawful = name != ":print-success" and is_attribute(tree[1:]) and is_lawful_text(text)
+        return [text] if is_lawful else ['(echo "")']
 
     def _level(self, head, tree, text):
         is_numeral = len(tree) == 2 and getattr(tree[1], "kind", "") == "numeral"
