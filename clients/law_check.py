@@ -1,7 +1,7 @@
 """The law of `relax`, tried on one script: where the written script is `unsat`, so is the given one.
 
-The written script is answered by `ematch`, and, with its names made foreign, by `z3` too, which finds more. The given one is
-answered by `z3`. An answer `unknown`, or one that doesn't come in time, counts against nobody."""
+The written script is answered by `ematch`, and, with its names made foreign, by `z3` too, which finds more. The given one
+is answered by `z3`. An answer `unknown`, or one that doesn't come in time, counts against nobody."""
 
 import subprocess
 from typing import NamedTuple
@@ -11,7 +11,7 @@ from relax_script import Relaxer
 from script_text import CommandCutter, Token, read_command, write_tree
 
 CORE = frozenset("true false not and or => xor = distinct ite let forall ! Bool".split())
-AS_THEY_ARE = frozenset("set-option set-logic set-info push pop check-sat echo".split())
+AS_THEY_ARE = frozenset("set-logic set-info push pop check-sat echo".split())
 VERDICTS = ("sat", "unsat", "unknown")
 
 
@@ -42,10 +42,12 @@ def foreign(tree):
 
 
 def for_z3(commands):
-    """A written script with foreign names, since the names of theories mean something to `z3`."""
+    """A written script with foreign names, since the names of theories mean something to `z3`, and without options."""
     lines = []
     for command in commands:
         tree = read_command(command)
+        if tree[0].text == "set-option":
+            continue
         is_plain = tree[0].text in AS_THEY_ARE
         lines.append(command if is_plain else write_tree([tree[0], *[foreign(part) for part in tree[1:]]]))
     return "\n".join(lines) + "\n"

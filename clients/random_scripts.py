@@ -1,5 +1,5 @@
-"""Scripts made at random over more of SMT-LIB 2.6 than `ematch` takes: numbers, arguments of sort Bool, datatypes, arrays,
-bit vectors, `ite` of terms, nested quantifiers with and without triggers, definitions, levels, assumptions."""
+"""Scripts made at random over more of SMT-LIB 2.6 than `ematch` takes: numbers, arguments of sort Bool, datatypes,
+arrays, bit vectors, `ite` of terms, nested quantifiers with and without triggers, definitions, levels, assumptions."""
 
 import random
 
@@ -24,7 +24,8 @@ HEADER = """(set-logic ALL)
 """
 CONSTANTS = {
     "Int": ["a", "b", "c"], "Bool": ["s", "t"], "U": ["u", "v", "w"], "Color": ["hue", "tint"], "List": ["l", "m"],
-    "Pair": ["couple"], "Real": ["r"], "(Row Int)": ["row", "line"], "(Row Bool)": ["flags"], "(_ BitVec 4)": ["bits", "mask"],
+    "Pair": ["couple"], "Real": ["r"], "(Row Int)": ["row", "line"], "(Row Bool)": ["flags"],
+    "(_ BitVec 4)": ["bits", "mask"],
     "(Maybe U)": ["perhaps"], "(Box Int)": ["box"],
 }
 VARIABLE_SORTS = ["Int", "Int", "U", "U", "Bool", "List", "Color", "Pair", "(Row Int)"]
@@ -99,7 +100,8 @@ class RandomScript:
         if self.formulas and self.one_in(3):
             earlier = self.random.choice(self.formulas)
             return "(assert " + self.pick(
-                f"(not {earlier})", f"(=> {earlier} false)", f"(=> {self.formula(1, {})} {earlier})", f"(xor true {earlier})",
+                f"(not {earlier})", f"(=> {earlier} false)", f"(=> {self.formula(1, {})} {earlier})",
+                f"(xor true {earlier})",
                 f"(ite {earlier} {self.formula(1, {})} {self.formula(1, {})})", f"(= {earlier} {self.formula(1, {})})",
                 f"(let ((z {earlier})) (or {self.formula(1, {})} (not z)))", f"(k {earlier})") + ")"
         formula = self.formula(self.random.randint(1, 4), {})
@@ -149,7 +151,8 @@ class RandomScript:
 
     def pattern(self, name, sort):
         """A pattern that holds a variable."""
-        patterns = {"Int": ["(f {})", "(p {})", "(select row {})", "(cons {} l)"], "U": ["(g {} true)", "(q {} {})", "(q u {})"],
+        patterns = {"Int": ["(f {})", "(p {})", "(select row {})", "(cons {} l)"],
+                    "U": ["(g {} true)", "(q {} {})", "(q u {})"],
                     "Bool": ["(k {})", "(g u {})"], "List": ["(size {})", "(tail {})"], "Color": ["((_ is red) {})"],
                     "Pair": ["(first {})"], "(Row Int)": ["(select {} a)"]}
         return self.random.choice(patterns[sort]).replace("{}", name)
@@ -162,7 +165,8 @@ class RandomScript:
             sort = self.random.choice(list(CONSTANTS))
             return f"({self.pick('=', '=', 'distinct')} {term(sort)} {term(sort)})"
         if kind < 6:
-            return f"({self.pick('<', '<=', '>', '>=')} {term('Int')} {' '.join([term('Int') for _ in range(self.pick(1, 1, 2))])})"
+            terms = [term("Int") for _ in range(self.pick(2, 2, 3))]
+            return f"({self.pick('<', '<=', '>', '>=')} {' '.join(terms)})"
         if kind < 8:
             return f"(p {term('Int')})"
         if kind < 10:
@@ -198,7 +202,8 @@ class RandomScript:
         if depth <= 0 or self.one_in(3):
             return self.random.choice(free or ["s"]) if free or sort == "Bool" else self.leaf(sort, bound)
         if self.one_in(8):
-            return f"(ite {self.formula(depth - 1, bound)} {self.term(sort, depth - 1, bound)} {self.term(sort, 0, bound)})"
+            yes, no = self.term(sort, depth - 1, bound), self.term(sort, 0, bound)
+            return f"(ite {self.formula(depth - 1, bound)} {yes} {no})"
         return self.built(sort, depth - 1, bound)
 
     def leaf(self, sort, bound):
@@ -210,15 +215,17 @@ class RandomScript:
         term = lambda other: self.term(other, depth, bound)
         return self.random.choice({
             "Int": lambda: [f"(f {term('Int')})", f"(+ {term('Int')} {term('Int')})", str(self.random.randrange(4)),
-                            f"(head {term('List')})", f"(size {term('List')})", f"(select {term('(Row Int)')} {term('Int')})",
-                            f"(later {term('Int')})", f"(- {term('Int')})", f"(* 2 {term('Int')})", f"(- {term('Int')} 1)"],
+                            f"(head {term('List')})", f"(size {term('List')})",
+                            f"(select {term('(Row Int)')} {term('Int')})", f"(later {term('Int')})",
+                            f"(- {term('Int')})", f"(* 2 {term('Int')})", f"(- {term('Int')} 1)"],
             "Bool": lambda: [self.atom(1, bound)],
             "U": lambda: [f"(g {term('U')} {self.atom(1, bound)})", f"(g {term('U')} {self.pick('true', 'false')})",
                           f"(first {term('Pair')})", f"(value {term('(Maybe U)')})", f"(open {term('(Box Int)')})"],
             "Color": lambda: ["red", "green", "blue"],
             "List": lambda: ["nil", f"(cons {term('Int')} {term('List')})", f"(tail {term('List')})"],
             "Pair": lambda: [f"(pair {term('U')} {self.atom(1, bound)})"],
-            "Real": lambda: ["1.5", f"(mix {term('Real')} {term('U')})", f"(to_real {term('Int')})", f"(+ {term('Real')} 1)"],
+            "Real": lambda: ["1.5", f"(mix {term('Real')} {term('U')})", f"(to_real {term('Int')})",
+                             f"(+ {term('Real')} 1)"],
             "(Row Int)": lambda: [f"(store {term('(Row Int)')} {term('Int')} {term('Int')})", "((as const (Row Int)) 0)"],
             "(Row Bool)": lambda: [f"(store {term('(Row Bool)')} {term('Int')} {self.atom(1, bound)})"],
             "(_ BitVec 4)": lambda: ["#b0101", "#xA", f"(bvadd {term('(_ BitVec 4)')} {term('(_ BitVec 4)')})", "(_ bv3 4)"],
