@@ -1,7 +1,7 @@
 """The law of `relax`, tried on one script: where the written script is `unsat`, so is the given one.
 
-The written script is answered by `ematch`, and, with its names made foreign, by `z3` too, which finds more. The given one
-is answered by `z3`. An answer `unknown`, or one that doesn't come in time, counts against nobody."""
+The written script is answered by `ematch`, and, with its names made foreign, by `z3` too, which finds more. The given
+one is answered by `z3`. An answer `unknown`, or one that doesn't come in time, counts against nobody."""
 
 import subprocess
 from typing import NamedTuple

@@ -226,17 +226,20 @@ class RandomScript:
             "Pair": lambda: [f"(pair {term('U')} {self.atom(1, bound)})"],
             "Real": lambda: ["1.5", f"(mix {term('Real')} {term('U')})", f"(to_real {term('Int')})",
                              f"(+ {term('Real')} 1)"],
-            "(Row Int)": lambda: [f"(store {term('(Row Int)')} {term('Int')} {term('Int')})", "((as const (Row Int)) 0)"],
+            "(Row Int)": lambda: [f"(store {term('(Row Int)')} {term('Int')} {term('Int')})",
+                                  "((as const (Row Int)) 0)"],
             "(Row Bool)": lambda: [f"(store {term('(Row Bool)')} {term('Int')} {self.atom(1, bound)})"],
-            "(_ BitVec 4)": lambda: ["#b0101", "#xA", f"(bvadd {term('(_ BitVec 4)')} {term('(_ BitVec 4)')})", "(_ bv3 4)"],
+            "(_ BitVec 4)": lambda: ["#b0101", "#xA", "(_ bv3 4)",
+                                     f"(bvadd {term('(_ BitVec 4)')} {term('(_ BitVec 4)')})"],
             "(Maybe U)": lambda: ["(as none (Maybe U))", f"(some {term('U')})"],
             "(Box Int)": lambda: ["box"],
         }[sort]())
 
 
 class ConsistentScript(RandomScript):
-    """A script that has a model and leaves little open: values of constants and functions, and then formulas at random,
-    each asserted or denied as `z3` finds it can be. `ask` takes commands and gives the verdict of the check among them."""
+    """A script that has a model and leaves little open: values of constants and functions, and then formulas at
+    random, each asserted or denied as `z3` finds it can be. `ask` takes commands and gives the verdict of the check
+    among them."""
 
     def __init__(self, seed, ask):
         self.ask = ask
@@ -260,7 +263,8 @@ class ConsistentScript(RandomScript):
         digit = lambda: str(self.random.randrange(4))
         truth = lambda: self.pick("true", "false")
         facts = [f"(= {name} {digit()})" for name in "abc"] + [f"(= {name} {truth()})" for name in "st"]
-        facts += [f"(= (f {place}) {digit()})" for place in range(4)] + [f"(= (p {place}) {truth()})" for place in range(4)]
+        facts += [f"(= (f {place}) {digit()})" for place in range(4)]
+        facts += [f"(= (p {place}) {truth()})" for place in range(4)]
         facts += [self.pick("(distinct u v w)", "(= u v)", "(and (= u w) (distinct u v))")]
         facts += [f"(= (q {left} {right}) {truth()})" for left in "uv" for right in "uv"]
         facts += [f"(= (k {value}) {truth()})" for value in ("true", "false")]

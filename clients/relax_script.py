@@ -43,10 +43,10 @@ def at_parameters(tree, names, parameters):
 class Relaxer:
     """Takes the commands of a script one by one.
 
-    `command` gives what is to be handed on for each. `report` gives what became of the commands since it was last called.
-    `weaker` tells whether something that stands now was dropped or left open, so that `sat` says nothing of the given
-    script, and `weaker_at_check` whether this was so at the last check, also one under assumptions. With `is_bare` no
-    axioms of theories are written."""
+    `command` gives what is to be handed on for each. `report` gives what became of the commands since it was last
+    called. `weaker` tells whether something that stands now was dropped or left open, so that `sat` says nothing of
+    the given script, and `weaker_at_check` whether this was so at the last check, also one under assumptions. With
+    `is_bare` no axioms of theories are written."""
 
     def __init__(self, is_bare=False):
         self.is_bare = is_bare
@@ -89,8 +89,8 @@ class Relaxer:
         return lines
 
     def command(self, text, line=None):
-        """What is to be handed on for one command, as a list of whole commands, each of which ends with a line feed in a
-        stream. Raises `TextFault` where `text` is not one list of tokens."""
+        """What is to be handed on for one command, as a list of whole commands; in a stream each ends with a line feed.
+        Raises `TextFault` where `text` is not one list of tokens."""
         tree = read_command(text)
         self.number += 1
         self.place = f"command {self.number}" if line is None else f"line {line}"
@@ -166,7 +166,8 @@ class Relaxer:
     def _level(self, head, tree, text):
         is_numeral = len(tree) == 2 and getattr(tree[1], "kind", "") == "numeral"
         count = int(tree[1].text) if is_numeral else 1
-        is_known = (len(tree) == 1 or is_numeral) and (count <= self.record.depth if head == "pop" else count <= MOST_LEVELS)
+        most = self.record.depth if head == "pop" else MOST_LEVELS
+        is_known = (len(tree) == 1 or is_numeral) and count <= most
         self._say(head, "as it is" if is_known else "as it is, though it is an error")
         if is_known and head == "push":
             self.record.push(count)
@@ -400,8 +401,8 @@ class Relaxer:
         listed = [one if isinstance(one, list) else [one] for one in constructors]
         if not parameters:
             return listed
-        whole = [[one[0], *[[field[0], at_parameters(field[1], names, parameters)] for field in one[1:]]] for one in listed]
-        return [Token("symbol", "par"), parameters, whole]
+        at = lambda field: [field[0], at_parameters(field[1], names, parameters)]
+        return [Token("symbol", "par"), parameters, [[one[0], *[at(field) for field in one[1:]]] for one in listed]]
 
     def _datatypes(self, rows):
         """Datatypes that may speak of each other, as pairs of name and body."""
@@ -440,7 +441,8 @@ class Relaxer:
                 self.sorts.read(sort, {one: BOOL for one in datatype.parameters})
             members.append((name, DatatypeMember("make", datatype, place)))
             members.append((f"is-{name}", DatatypeMember("is", datatype, place)))
-            members += [(field[0], DatatypeMember("take", datatype, place, count)) for count, field in enumerate(fields)]
+            takes = [DatatypeMember("take", datatype, place, count) for count in range(len(fields))]
+            members += [(field, take) for (field, _), take in zip(fields, takes)]
         if not members:
             raise LeftOut("a datatype without constructors")
         return members

@@ -33,8 +33,8 @@ class Macro:
 class TermReader:
     """Reads terms and formulas by the tables of functions and sorts.
 
-    `is_plain` becomes false at the first thing that `ematch` does not take as it stands. `left_out` lists why formulas were
-    left open."""
+    `is_plain` becomes false at the first thing that `ematch` does not take as it stands. `left_out` lists why formulas
+    were left open."""
 
     def __init__(self, maker, record, sorts, theories, script):
         self.maker = maker

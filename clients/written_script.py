@@ -21,9 +21,9 @@ def sort_hint(sort):
 class WrittenScript:
     """The commands written and not yet taken, and what stands in the script that they make.
 
-    `record` keeps by level which sorts and symbols are declared and under which names. `axioms_of` gives, for a symbol or
-    sort that was just declared, the closed formulas that are true of it. `opened` lists the names declared for what means
-    more in the given script."""
+    `record` keeps by level which sorts and symbols are declared and under which names. `axioms_of` gives, for a symbol
+    or sort that was just declared, the closed formulas that are true of it. `opened` lists the names declared for what
+    means more in the given script."""
 
     def __init__(self, record, maker):
         self.record = record
@@ -205,7 +205,8 @@ class FormulaText:
         variables, triggers = node.data
         for variable in variables:
             self.names[variable] = self._new_name(variable.data)
-        bound = [f"({write_symbol(self.names[one])} {write_symbol(self.script.sort_name(one.sort))})" for one in variables]
+        sorts = [write_symbol(self.script.sort_name(one.sort)) for one in variables]
+        bound = [f"({write_symbol(self.names[one])} {sort})" for one, sort in zip(variables, sorts)]
         patterns = [" :pattern (" + " ".join([self._pattern(pattern) for pattern in one]) + ")" for one in triggers]
         body = self._scope(node.args[0], node.free | frozenset(variables))
         self.used.difference_update([self.names.pop(variable) for variable in variables])
