@@ -8,7 +8,7 @@ from datatypes import Datatype, DatatypeMember
 from level_record import LevelRecord
 from script_sorts import DeclaredSort, DefinedSort, SortReader
 from script_terms import CORE, Macro, TermReader
-from script_text import (RESERVED, TextFault, is_keyword, is_lawful_text, is_symbol, read_command, write_symbol, write_tree)
+from script_text import (RESERVED, Token, is_keyword, is_lawful_text, is_symbol, read_command, write_symbol, write_tree)
 from theories import Theories, as_term_sort
 from theory_axioms import TheoryAxioms
 from typed_terms import BOOL, LeftOut, NodeMaker, Symbol
@@ -16,6 +16,7 @@ from weakening import Weakening
 from written_script import MOST_ARGUMENTS, WrittenScript
 
 MOST_LEVELS = 65536
+MOST_VALUE = 1 << 128
 SUCCESS_ON = "(set-option :print-success true)"
 SUCCESS_OFF = "(set-option :print-success false)"
 ANSWERED = frozenset("get-assertions get-assignment get-info get-model get-option get-proof get-unsat-assumptions "
@@ -24,18 +25,35 @@ ANSWERED = frozenset("get-assertions get-assignment get-info get-model get-optio
 sys.setrecursionlimit(max(sys.getrecursionlimit(), 400_000))
 
 
+def is_attribute(trees):
+    """Whether trees are a keyword and perhaps a value that `ematch` takes."""
+    if not 1 <= len(trees) <= 2 or not is_keyword(trees[0]) or is_keyword(trees[-1]) and len(trees) == 2:
+        return False
+    is_numeral = isinstance(trees[-1], Token) and trees[-1].kind == "numeral"
+    return not is_numeral or int(trees[-1].text) < MOST_VALUE
+
+
+def at_parameters(tree, names, parameters):
+    """A sort in which the names of datatypes alone get parameters."""
+    if tree in names:
+        return [tree, *parameters]
+    return [at_parameters(part, names, parameters) for part in tree] if isinstance(tree, list) else tree
+
+
 class Relaxer:
     """Takes the commands of a script one by one.
 
-    `command` gives what is to be handed on for each. `report` gives what became of the commands since it was last called.
-    `weaker` tells whether something that stands now was dropped or left open, so that `sat` says nothing of the given
-    script. With `is_bare` no axioms of theories are written."""
+    `command` gives what is to be handed on for each. `report` gives what became of the commands since it was last
+    called. `weaker` tells whether something that stands now was dropped or left open, so that `sat` says nothing of
+    the given script, and `weaker_at_check` whether this was so at the last check, also one under assumptions. With
+    `is_bare` no axioms of theories are written."""
 
     def __init__(self, is_bare=False):
         self.is_bare = is_bare
         self.lines = []
         self.number = 0
         self.place = ""
+        self.weaker_at_check = False
         self._begin()
         self.heads = {
             "assert": self._assert, "declare-sort": self._declare_sort, "define-sort": self._define_sort,
@@ -71,8 +89,8 @@ class Relaxer:
         return lines
 
     def command(self, text, line=None):
-        """What is to be handed on for one command, as a list of whole commands, each of which ends with a line feed in a
-        stream. Raises `TextFault` where `text` is not one list of tokens."""
+        """What is to be handed on for one command, as a list of whole commands; in a stream each ends with a line feed.
+        Raises `TextFault` where `text` is not one list of tokens."""
         tree = read_command(text)
         self.number += 1
         self.place = f"command {self.number}" if line is None else f"line {line}"
@@ -114,6 +132,7 @@ class Relaxer:
             return self._level(head, tree, text)
         if head == "check-sat" and len(tree) == 1:
             self._say(head, "as it is")
+            self.weaker_at_check = self.weaker
             return ["(check-sat)"]
         if head == "check-sat-assuming":
             return self._check_assuming(tree)
@@ -123,11 +142,13 @@ class Relaxer:
             return self._option(tree, text)
         if head in ANSWERED or head == "echo":
             self._say(head, "as it is")
-            return [text] if is_lawful_text(text) else ['(echo "")']
+            is_lawful = is_lawful_text(text) and (head != "get-info" or len(tree) == 2 and is_attribute(tree[1:]))
+            return [text] if is_lawful else ['(echo "")']
         if head in ("set-info", "set-logic"):
-            lawful = is_lawful_text(text)
-            self._say(head, "as it is" if lawful else "dropped: bytes that ematch does not take")
-            return self._with_success([text] if lawful else [])
+            is_lawful = len(tree) == 2 and is_symbol(tree[1]) if head == "set-logic" else is_attribute(tree[1:])
+            is_lawful = is_lawful and is_lawful_text(text)
+            self._say(head, "as it is" if is_lawful else "dropped: a form that ematch does not take")
+            return self._with_success([text] if is_lawful else [])
         return self._answer_unsupported(head, "not known: answered by unsupported")
 
     def _option(self, tree, text):
@@ -139,12 +160,14 @@ class Relaxer:
             return [SUCCESS_ON if self.asks_success else SUCCESS_OFF]
         if name == ":global-declarations" and value in ("true", "false"):
             self.is_global = value == "true"
-        return [text] if is_lawful_text(text) else ['(echo "")']
+        is_lawful = name != ":print-success" and is_attribute(tree[1:]) and is_lawful_text(text)
+        return [text] if is_lawful else ['(echo "")']
 
     def _level(self, head, tree, text):
         is_numeral = len(tree) == 2 and getattr(tree[1], "kind", "") == "numeral"
         count = int(tree[1].text) if is_numeral else 1
-        is_known = (len(tree) == 1 or is_numeral) and (count <= self.record.depth if head == "pop" else count <= MOST_LEVELS)
+        most = self.record.depth if head == "pop" else MOST_LEVELS
+        is_known = (len(tree) == 1 or is_numeral) and count <= most
         self._say(head, "as it is" if is_known else "as it is, though it is an error")
         if is_known and head == "push":
             self.record.push(count)
@@ -174,7 +197,7 @@ class Relaxer:
                 self._careful_state("check-sat-assuming", lambda literal=literal: self.terms.formula(literal))
         commands = ["(push 1)", *self.script.take(), "(check-sat)", "(pop 1)"]
         self._say("check-sat-assuming", "rewritten: a level with the assumptions")
-        self.held_weaker = self.weaker
+        self.weaker_at_check = self.weaker
         self.record.pop(1)
         return self._silent(commands)
 
@@ -365,16 +388,21 @@ class Relaxer:
         if len(tree) != 3 or not all([isinstance(part, list) for part in tree[1:]]):
             raise LeftOut("a declaration of another form")
         if all([is_symbol(one) for one in tree[1]]):
-            rows = [(one[0], [one[1:], tree[1]]) for one in tree[2] if isinstance(one, list) and one]
-            return self._datatypes([(name, self._with_parameters(parts, names)) for name, (parts, names) in rows])
+            rows = [one for one in tree[2] if isinstance(one, list) and one]
+            names = [one[0] for one in rows]
+            return self._datatypes([(one[0], self._with_parameters(one[1:], tree[1], names)) for one in rows])
         if len(tree[1]) != len(tree[2]) or not all([isinstance(one, list) and len(one) == 2 for one in tree[1]]):
             raise LeftOut("a declaration of another form")
         return self._datatypes([(one[0], body) for one, body in zip(tree[1], tree[2])])
 
-    def _with_parameters(self, constructors, parameters):
-        """The body of a datatype in the older form, in which parameters stand before all datatypes."""
+    def _with_parameters(self, constructors, parameters, names):
+        """The body of a datatype in the older form, in which parameters stand before all datatypes, whose names alone
+        are their sorts at these parameters; `names` are those of the datatypes."""
         listed = [one if isinstance(one, list) else [one] for one in constructors]
-        return [read_command("(par)")[0], parameters, listed] if parameters else listed
+        if not parameters:
+            return listed
+        at = lambda field: [field[0], at_parameters(field[1], names, parameters)]
+        return [Token("symbol", "par"), parameters, [[one[0], *[at(field) for field in one[1:]]] for one in listed]]
 
     def _datatypes(self, rows):
         """Datatypes that may speak of each other, as pairs of name and body."""
@@ -413,7 +441,8 @@ class Relaxer:
                 self.sorts.read(sort, {one: BOOL for one in datatype.parameters})
             members.append((name, DatatypeMember("make", datatype, place)))
             members.append((f"is-{name}", DatatypeMember("is", datatype, place)))
-            members += [(field[0], DatatypeMember("take", datatype, place, count)) for count, field in enumerate(fields)]
+            takes = [DatatypeMember("take", datatype, place, count) for count in range(len(fields))]
+            members += [(field, take) for (field, _), take in zip(fields, takes)]
         if not members:
             raise LeftOut("a datatype without constructors")
         return members

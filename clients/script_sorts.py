@@ -26,7 +26,8 @@ class DefinedSort:
 
 
 class SortReader:
-    """Reads sorts by the table of what is declared and defined. `is_plain` becomes false at a sort that `ematch` has not."""
+    """Reads sorts by the table of what is declared and defined. `is_plain` becomes false at a sort that `ematch` has
+    not."""
 
     def __init__(self, record):
         self.record = record

@@ -14,6 +14,13 @@ def is_bound_name(tree, names):
     return is_symbol(tree) and tree.text not in RESERVED and tree.text not in names
 
 
+def are_attributes(trees):
+    """Whether trees are one attribute or more, each a keyword and perhaps a value."""
+    if not trees or not is_keyword(trees[0]):
+        return False
+    return not any([not is_keyword(one) and not is_keyword(other) for one, other in zip(trees, trees[1:])])
+
+
 class Macro:
     """A definition: the variables of its parameters and its body. `is_plain` tells that it was handed on as it is."""
 
@@ -26,8 +33,8 @@ class Macro:
 class TermReader:
     """Reads terms and formulas by the tables of functions and sorts.
 
-    `is_plain` becomes false at the first thing that `ematch` does not take as it stands. `left_out` lists why formulas were
-    left open."""
+    `is_plain` becomes false at the first thing that `ematch` does not take as it stands. `left_out` lists why formulas
+    were left open."""
 
     def __init__(self, maker, record, sorts, theories, script):
         self.maker = maker
@@ -348,7 +355,7 @@ class TermReader:
         return self._under(names, lambda: self.read(tree[2]))
 
     def _annotated(self, tree):
-        if len(tree) < 3:
+        if not are_attributes(tree[2:]):
             raise LeftOut("a term without an attribute")
         node = self.read(tree[1])
         for place, part in enumerate(tree):
@@ -392,6 +399,8 @@ class TermReader:
         """The body of a quantifier, and its triggers that can be used."""
         attributes = []
         while isinstance(tree, list) and len(tree) > 2 and is_symbol(tree[0], "!"):
+            if not are_attributes(tree[2:]):
+                raise LeftOut("a body without an attribute")
             attributes += tree[2:]
             tree = self._named_inside(tree)
         body = self.formula(tree)
@@ -403,7 +412,7 @@ class TermReader:
                     triggers.append(trigger)
                 else:
                     self.is_plain = False
-        self.is_plain = self.is_plain and bool(triggers)
+        self.is_plain = self.is_plain and bool(triggers) and not is_keyword(attributes[-1], ":pattern")
         return body, triggers
 
     def _named_inside(self, tree):
@@ -420,4 +429,6 @@ class TermReader:
             nodes = [self.read(part) for part in tree]
         except LeftOut:
             return None
+        if any([node.op == "not" for node in nodes]):
+            self.is_plain = False
         return tuple([node.args[0] if node.op == "not" else node for node in nodes])

@@ -1,4 +1,5 @@
-"""Scripts as text: commands cut out of a stream, the tree of a command, and symbols written so that they can be read back.
+"""Scripts as text: commands cut out of a stream, the tree of a command, and symbols written so that they can be read
+back.
 
 Text is a `str` in which each character stands for one byte (latin-1), so that nothing is lost between input and output.
 A tree is a `Token` or a list of trees.

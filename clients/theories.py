@@ -265,5 +265,5 @@ def width_of(term):
 
 def value_of(term):
     """The number that a constant of `Int` or `Real` stands for, and nothing for other terms."""
-    is_number = term.op == "apply" and term.sort in (INT, REAL) and term.data.origin and term.data.origin[0] == "literal"
-    return term.data.origin[1] if is_number else None
+    origin = term.data.origin if term.op == "apply" and term.sort in (INT, REAL) else None
+    return origin[1] if origin and origin[0] == "literal" else None

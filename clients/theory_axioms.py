@@ -182,11 +182,12 @@ class TheoryAxioms:
         return [self._forall(variables, make.both(facts), (term,))]
 
     def _one_of(self, datatype, sort):
-        """Where a tester is asked, one of all holds, and the term is what its constructor makes of its parts. Where there
-        is one constructor, this is so also where a part is taken."""
+        """Where a tester is asked, one of all holds, and the term is what its constructor makes of its parts. Where
+        there is one constructor, this is so also where a part is taken."""
         make = self.maker
         [x] = self._variables(sort)
-        tests = [make.apply(self._member(datatype, "is", place, sort), x) for place in range(len(datatype.constructors))]
+        count = len(datatype.constructors)
+        tests = [make.apply(self._member(datatype, "is", place, sort), x) for place in range(count)]
         axioms = [self._forall([x], make.either(tests), *[(test,) for test in tests[:MOST_TESTERS]])]
         for place, test in enumerate(tests):
             symbol = self._member(datatype, "make", place, sort)

@@ -26,7 +26,8 @@ def is_simple(node):
 def is_trigger(patterns, variables):
     """Whether patterns can be the trigger of a forall over these variables; others may occur besides."""
     covered = frozenset().union(*[pattern.free for pattern in patterns])
-    return 0 < len(patterns) <= MOST_PATTERNS and all([is_pattern(one) for one in patterns]) and covered.issuperset(variables)
+    are_patterns = all([is_pattern(one) for one in patterns])
+    return 0 < len(patterns) <= MOST_PATTERNS and are_patterns and covered.issuperset(variables)
 
 
 def choose_triggers(body, variables):

@@ -1,8 +1,7 @@
 """Terms and formulas with sorts, as `relax` works on them.
 
-A sort is a tuple: `("Int",)`, `("Array", s, t)`, `("_", "BitVec", 32)`, `("List", s)`. `BOOL` is the sort of formulas, and
-`TRUTH` that of the two terms that stand for true and false where a formula is an argument.
-"""
+A sort is a tuple: `("Int",)`, `("Array", s, t)`, `("_", "BitVec", 32)`, `("List", s)`. `BOOL` is the sort of formulas,
+and `TRUTH` that of the two terms that stand for true and false where a formula is an argument."""
 
 import itertools
 
@@ -18,8 +17,9 @@ class LeftOut(Exception):
 class Symbol:
     """A function or predicate of the written script.
 
-    `hint` is the name that it gets where that is free, `arguments` are sorts, and `result` is a sort. `kind` says where it
-    is from: `given`, `own` (a name for something that the script says), or `theory`. `origin` is what its axioms need."""
+    `hint` is the name that it gets where that is free, `arguments` are sorts, and `result` is a sort. `kind` says
+    where it is from: `given`, `own` (a name for something that the script says), or `theory`. `origin` is what its
+    axioms need."""
 
     def __init__(self, hint, arguments, result, kind, origin=None):
         self.hint = hint
@@ -32,11 +32,12 @@ class Symbol:
 class Node:
     """A term or formula. Equal ones are one object, so that they can be shared.
 
-    `op` is one of: `variable`, `apply` (`data` is the symbol), the connectives of the core theory (`ite` also of terms),
-    `truth` (the term that stands for a formula), `forall` and `exists` (`data` is the pair of variables and triggers, a
-    trigger a tuple of terms), and `open` (`data` says what is left out: its value is not known). True is an `and`, and
-    false an `or`, without parts. `free` are the variables that occur free. `loose` tells that a quantifier or an `open` is
-    inside, and `named` that an `ite` of terms or a `truth` is. `size` counts the nodes as a tree."""
+    `op` is one of: `variable`, `apply` (`data` is the symbol), the connectives of the core theory (`ite` also of
+    terms), `truth` (the term that stands for a formula), `forall` and `exists` (`data` is the pair of variables and
+    triggers, a trigger a tuple of terms), and `open` (`data` says what is left out: its value is not known). True is
+    an `and`, and false an `or`, without parts. `free` are the variables that occur free. `loose` tells that a
+    quantifier or an `open` is inside, and `named` that an `ite` of terms or a `truth` is. `size` counts the nodes as a
+    tree."""
 
     __slots__ = ("op", "args", "data", "sort", "free", "loose", "named", "size", "number")
 

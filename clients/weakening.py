@@ -1,8 +1,8 @@
 """Formulas made weaker until `ematch` takes them.
 
-What is written is implied by what is given, once the new names are given their meaning: a choice that the formula grants for
-names of witnesses, and the value of a term for names of terms. Where something can't be said, the smallest part of the
-formula around it becomes true; it stands in a place where that makes the whole weaker."""
+What is written is implied by what is given, once the new names are given their meaning: a choice that the formula
+grants for names of witnesses, and the value of a term for names of terms. Where something can't be said, the smallest
+part of the formula around it becomes true; it stands in a place where that makes the whole weaker."""
 
 from triggers import MOST_VARIABLES, choose_triggers, is_trigger
 from typed_terms import BOOL, TRUTH, Replacement, Symbol
@@ -139,7 +139,7 @@ class Weakening:
         return self.maker.both([self._finish(*clause) for clause in clauses])
 
     def _clauses(self, node):
-        """A formula as a list of triples of variables, triggers and a body without foralls; none where it is too long."""
+        """A formula as a list of triples of variables, triggers and a body without foralls; none where it is long."""
         if not node.loose:
             return [((), (), node)]
         if node.op == "forall":
@@ -163,20 +163,35 @@ class Weakening:
         return (left[0] + right[0], join_triggers(left[1], right[1]), self.maker.either([left[2], right[2]]))
 
     def _finish(self, variables, triggers, body):
-        """The forall over these variables with triggers that `ematch` takes, of the given ones or of the body; else true."""
+        """The forall over these variables with triggers that `ematch` takes: the given ones, or some of the body's
+        applications; else true."""
         variables = tuple(dict.fromkeys(variables))
         kept = [one for one in triggers if is_trigger(one, variables) and pattern_variables(one).issubset(variables)]
-        if not kept:
-            variables = tuple([one for one in variables if one in body.free])
-            self.changed.append("triggers chosen")
-            kept = choose_triggers(body, variables)
-        if not variables or body is self.maker.true:
+        if kept and body is not self.maker.true and len(variables) <= MOST_VARIABLES:
+            return self.maker.quantifier("forall", variables, body, kept)
+        self.changed.append("triggers chosen")
+        return self._with_chosen(tuple([one for one in variables if one in body.free]), body)
+
+    def _with_chosen(self, variables, body):
+        """The forall over variables that occur, with triggers chosen: part by part where the body is a conjunction, and
+        without a variable that can only be one term."""
+        if not variables:
             return body
-        if not kept:
+        conjuncts = [self.maker.negate(part) for part in disjuncts(self.maker, body, False)]
+        if len(conjuncts) > 1:
+            return self.maker.both([self._finish(variables, (), part) for part in conjuncts])
+        parts = disjuncts(self.maker, body)
+        for part in parts:
+            variable, term = solved_variable(part, variables)
+            if variable is not None:
+                rest = self.maker.either([other for other in parts if other is not part])
+                return self._finish(variables, (), Replacement(self.maker, {variable: term}).of(rest))
+        chosen = choose_triggers(body, variables)
+        if not chosen:
             return self._drop("a forall for which no trigger is found")
         if len(variables) > MOST_VARIABLES:
             return self._drop(f"a forall of more than {MOST_VARIABLES} variables")
-        return self.maker.quantifier("forall", variables, body, kept)
+        return self.maker.quantifier("forall", variables, body, chosen)
 
     # Terms
 
@@ -223,6 +238,28 @@ class Weakening:
             facts = [make.implies(condition, make.equal(term, yes)), make.either([condition, make.equal(term, no)])]
         for fact in facts:
             self.state(make.quantifier("forall", arguments, fact, [(term,)]))
+
+
+def disjuncts(maker, formula, is_positive=True):
+    """The parts of a formula, or of its negation, as a disjunction."""
+    if formula.op == "not":
+        return disjuncts(maker, formula.args[0], not is_positive)
+    if formula.op == ("or" if is_positive else "and"):
+        return [part for whole in formula.args for part in disjuncts(maker, whole, is_positive)]
+    if formula.op == "=>" and is_positive:
+        left = [part for whole in formula.args[:-1] for part in disjuncts(maker, whole, False)]
+        return left + disjuncts(maker, formula.args[-1])
+    return [formula if is_positive else maker.negate(formula)]
+
+
+def solved_variable(formula, variables):
+    """A variable and the term that it is where a disequation is false; nothing where the formula is no such one."""
+    equation = formula.args[0] if formula.op == "not" else formula
+    if formula.op == "not" and equation.op == "=":
+        for here, there in (equation.args, equation.args[::-1]):
+            if here in variables and here not in there.free:
+                return here, there
+    return None, None
 
 
 def pattern_variables(trigger):

@@ -21,15 +21,16 @@ def sort_hint(sort):
 class WrittenScript:
     """The commands written and not yet taken, and what stands in the script that they make.
 
-    `record` keeps by level which sorts and symbols are declared and under which names. `axioms_of` gives, for a symbol or
-    sort that was just declared, the closed formulas that are true of it. `opened` lists the names declared for what means
-    more in the given script."""
+    `record` keeps by level which sorts and symbols are declared and under which names. `axioms_of` gives, for a symbol
+    or sort that was just declared, the closed formulas that are true of it. `opened` lists the names declared for what
+    means more in the given script."""
 
     def __init__(self, record, maker):
         self.record = record
         self.maker = maker
         self.commands = []
         self.opened = []
+        self.counts = {}
         self.axioms_of = lambda thing: []
         self.truth = Symbol("holds", [TRUTH], BOOL, "own")
         self.yes = Symbol("yes", [], TRUTH, "own")
@@ -47,13 +48,13 @@ class WrittenScript:
     # Names
 
     def _free_name(self, hint, taken):
-        """The first of `hint`, `hint!2`, `hint!3` and so on that may be declared."""
+        """One of `hint`, `hint!2`, `hint!3` and so on that may be declared; a number is not used again."""
         base = hint if can_be_name(hint) and hint not in CORE_NAMES and hint != "Bool" else "named!" + "".join(
             [letter for letter in hint if letter.isalnum()])
-        name, count = base, 1
+        name = base
         while name in taken:
-            count += 1
-            name = f"{base}!{count}"
+            self.counts[base] = self.counts.get(base, 1) + 1
+            name = f"{base}!{self.counts[base]}"
         return name
 
     def stands_as_given(self, formula):
@@ -137,6 +138,7 @@ class FormulaText:
         self.script = script
         self.names = {}
         self.used = set()
+        self.counts = {}
 
     def whole(self, formula):
         """The text of a closed formula."""
@@ -144,8 +146,7 @@ class FormulaText:
         return self._scope(formula, frozenset())
 
     def _scope(self, root, variables):
-        """The text of a part, with a `let` round it for each shared part that can stand here: one whose variables
-        are among these, and outside foralls all of its variables."""
+        """The text of a part, with a `let` round it for each shared part whose variables are among these."""
         counts = {root: 1}
         order = []
         self._count(root, counts, order)
@@ -161,7 +162,7 @@ class FormulaText:
         return "".join(bindings) + text + ")" * len(bindings)
 
     def _can_share(self, node, variables):
-        return node.size >= SHARED_FROM and not node.loose and node.free <= variables
+        return node.size >= SHARED_FROM and node.free <= variables
 
     def _count(self, node, counts, order):
         """Counts how often each part occurs, and lists the parts, each after its own parts."""
@@ -175,10 +176,11 @@ class FormulaText:
 
     def _new_name(self, hint):
         """A name for a bound variable that hides nothing."""
-        name, count = hint, 1
-        while name in self.used or self.script.is_taken(name) or not can_be_name(name):
-            count += 1
-            name = f"{hint}!{count}" if can_be_name(hint) else f"bound!{count}"
+        base = hint if can_be_name(hint) else "bound"
+        name = base
+        while name in self.used or self.script.is_taken(name):
+            self.counts[base] = self.counts.get(base, 1) + 1
+            name = f"{base}!{self.counts[base]}"
         self.used.add(name)
         return name
 
@@ -203,9 +205,11 @@ class FormulaText:
         variables, triggers = node.data
         for variable in variables:
             self.names[variable] = self._new_name(variable.data)
-        bound = [f"({write_symbol(self.names[one])} {write_symbol(self.script.sort_name(one.sort))})" for one in variables]
+        sorts = [write_symbol(self.script.sort_name(one.sort)) for one in variables]
+        bound = [f"({write_symbol(self.names[one])} {sort})" for one, sort in zip(variables, sorts)]
         patterns = [" :pattern (" + " ".join([self._pattern(pattern) for pattern in one]) + ")" for one in triggers]
         body = self._scope(node.args[0], node.free | frozenset(variables))
+        self.used.difference_update([self.names.pop(variable) for variable in variables])
         return f"(forall ({' '.join(bound)}) (! {body}{''.join(patterns)}))"
 
     def _pattern(self, node):
