@@ -154,7 +154,7 @@ class RandomScript:
         patterns = {"Int": ["(f {})", "(p {})", "(select row {})", "(cons {} l)"],
                     "U": ["(g {} true)", "(q {} {})", "(q u {})"],
                     "Bool": ["(k {})", "(g u {})"], "List": ["(size {})", "(tail {})"], "Color": ["((_ is red) {})"],
-                    "Pair": ["(first {})"], "(Row Int)": ["(select {} a)"]}
+                    "Pair": ["(first {})"], "(Row Int)": ["(select {} 0)"]}
         return self.random.choice(patterns[sort]).replace("{}", name)
 
     def atom(self, depth, bound):

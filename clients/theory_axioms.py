@@ -101,10 +101,10 @@ class TheoryAxioms:
         x, y, z = self._variables(*symbol.arguments, symbol.arguments[0])
         same, up, down = make.apply(symbol, x, x), make.apply(symbol, x, y), make.apply(symbol, y, x)
         on, over = make.apply(symbol, y, z), make.apply(symbol, x, z)
-        pair = make.both([make.either([up, down]), make.either([make.negate(up), make.negate(down), make.equal(x, y)])])
         axioms = [
             self._forall([x], same, (same,)),
-            self._forall([x, y], pair, (up, down)),
+            self._forall([x, y], make.either([up, down]), (up,)),
+            self._forall([x, y], make.either([make.negate(up), make.negate(down), make.equal(x, y)]), (up, down)),
             self._forall([x, y, z], make.either([make.negate(up), make.negate(on), over]), (up, on)),
         ]
         return axioms + (self._neighbours(symbol.arguments[0]) if symbol.hint == "<=" else [])

@@ -230,14 +230,14 @@ class FormulaText:
 
 
 def parts_of(formula):
-    """All parts of a formula, also of triggers, each once."""
-    seen, stack = set(), [formula]
+    """All parts of a formula, also of triggers, each once, in an order that the formula alone decides."""
+    seen, stack = {}, [formula]
     while stack:
         part = stack.pop()
         if part not in seen:
-            seen.add(part)
+            seen[part] = True
             stack.extend(part.args)
             if part.op in ("forall", "exists"):
                 stack.extend(part.data[0])
                 stack.extend([pattern for trigger in part.data[1] for pattern in trigger])
-    return seen
+    return list(seen)

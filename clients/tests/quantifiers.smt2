@@ -11,7 +11,7 @@
 (pop 1)
 (push 1)
 (assert (forall ((x U)) (! (=> (p x) (forall ((y U)) (! (q x y) :pattern ((f y))))) :pattern ((p x)))))
-(assert (and (p a) (not (q a (f (f b))))))
+(assert (and (p a) (p (f (f b))) (not (q a (f b)))))
 (check-sat)
 (pop 1)
 (push 1)
