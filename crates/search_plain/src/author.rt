@@ -1,29 +1,9 @@
 //! Random formulas, each as a text and as what its text puts into a draft.
-ghost use Rattle.std.specs.Prelude.{◌≢◌};
-
 use crate::draft::{Draft, Quantified, put_node, put_row};
 use crate::node::{Node, Parts};
+use crate::random::Random;
 use crate::row::{Head, Row};
 use std::alloc::{AllocError, Global};
-
-/// Numbers that look random, from a seed.
-#[derive(Drop)]
-pub(crate) struct Random {
-    pub(crate) state: u64,
-}
-
-impl Random {
-    /// The next number below a bound, which is above 0.
-    pub(crate) fn below(&mut self, bound: u64) -> u64
-        requires { bound ≢ 0 }
-    {
-        self.state = self
-            .state
-            .wrapping_mul(6_364_136_223_846_793_005)
-            .wrapping_add(1_442_695_040_888_963_407);
-        (self.state >> 33) % bound
-    }
-}
 
 /// A term of a draft.
 #[derive(Drop)]

@@ -1,4 +1,5 @@
 //! Rows, formulas and foralls of one assertion, each once, in the order in which its text names them.
+use crate::marks::{is_marked, mark, mark_parts};
 use crate::node::Node;
 use crate::row::Row;
 use std::alloc::{AllocError, Global};
@@ -99,25 +100,4 @@ impl Draft {
         }
         Ok(reached)
     }
-}
-
-/// Marks a place, where there is one.
-pub(crate) fn mark(marks: &mut Vec<bool>, place: Option<usize>) {
-    if let Some(number) = place {
-        if let Some(slot) = marks.get_mut(number) {
-            *slot = true;
-        }
-    }
-}
-
-/// Marks the places of the parts.
-pub(crate) fn mark_parts(marks: &mut Vec<bool>, parts: &[Option<usize>; 3]) {
-    for part in parts {
-        mark(marks, *part);
-    }
-}
-
-/// Whether a place is marked.
-pub(crate) fn is_marked(marks: &[bool], number: usize) -> bool {
-    marks.get(number).copied().unwrap_or(false)
 }

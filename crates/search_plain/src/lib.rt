@@ -4,8 +4,10 @@
 mod author;
 mod draft;
 mod known;
+mod marks;
 mod matching;
 mod node;
+mod random;
 mod row;
 pub mod script;
 mod search;

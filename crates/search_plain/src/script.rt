@@ -1,11 +1,14 @@
 //! Random scripts with foralls, and what the plain search answers.
-use crate::author::{Author, Random};
+use crate::author::Author;
 use crate::draft::Draft;
+use crate::random::Random;
 use crate::search::{Verdict, search};
 use crate::world::World;
 use std::alloc::{AllocError, Global};
 
-/// The most steps of a search, and the most terms of a state.
+/// How many commands a script has before its last check, the most steps of a search, and the most terms of a state.
+const COMMANDS: usize = 16;
+
 const MOST_STEPS: usize = 150;
 
 const MOST_TERMS: usize = 60;
@@ -96,7 +99,7 @@ pub fn script_of(alloc: Global, seed: u64, rounds: usize) -> Result<Script, Allo
         world: World::new(alloc)?,
         saved: Vec::new(alloc),
     };
-    for _ in 0..16 {
+    for _ in 0..COMMANDS {
         match random.below(9) {
             0 => script.open_level()?,
             1 => script.end_level()?,

@@ -1,6 +1,7 @@
 //! The plain search: whole states, of which those that are left wait in a list.
-use crate::draft::{Draft, is_marked};
+use crate::draft::Draft;
 use crate::known::{Known, is_live};
+use crate::marks::is_marked;
 use crate::matching::new_instances;
 use crate::node::{Node, Parts};
 use crate::world::{Instance, Struck, World};

@@ -1,5 +1,6 @@
 //! Where a search stands: what was entered, what holds, and what was given up.
-use crate::draft::{Draft, is_marked, mark, mark_parts, put_node, put_row};
+use crate::draft::{Draft, put_node, put_row};
+use crate::marks::{is_marked, mark, mark_parts};
 use crate::node::Node;
 use crate::row::{Head, Row};
 use std::alloc::{AllocError, Global};

@@ -13,7 +13,7 @@ const ROUNDS: [(usize, &str); 4] = [(0, "0"), (1, "1"), (2, "2"), (3, "3")];
 #[test]
 fn random_scripts_with_foralls_end_as_the_plain_search_does(rt: HostRuntime) -> Result<(), Fail> {
     let alloc = rt.alloc();
-    for seed in 0..15u64 {
+    for seed in 0..10u64 {
         for (rounds, word) in ROUNDS {
             let script = script_of(alloc, seed, rounds)?;
             let answers = [(script.text.as_str(), script.answer.as_str())];
