@@ -13,4 +13,4 @@ pub mod script;
 mod search;
 mod world;
 
-pub use script::{Script, script_of};
+pub use script::{DECLARED, Script, script_of};

@@ -6,6 +6,10 @@ use crate::search::{Verdict, search};
 use crate::world::World;
 use std::alloc::{AllocError, Global};
 
+/// What the scripts declare: a sort, functions of one and two arguments, predicates and constants.
+pub const DECLARED: &str =
+    "(declare-sort U 0)(declare-fun f (U) U)(declare-fun g (U) U)(declare-fun k (U U) U)(declare-fun p (U) Bool)(declare-fun r (U U) Bool)(declare-const a U)(declare-const b U)(declare-const c U)(declare-const q Bool)\n";
+
 /// How many commands a script has before its last check, the most steps of a search, and the most terms of a state.
 const COMMANDS: usize = 16;
 
@@ -13,7 +17,8 @@ const MOST_STEPS: usize = 150;
 
 const MOST_TERMS: usize = 60;
 
-/// A script so far, its answers, what is entered and asserted, and what was when each open level was opened.
+/// A script so far, to stand behind `DECLARED`, the lines that answer it, what is entered and asserted, and what was when
+/// each open level was opened.
 #[derive(Drop)]
 pub struct Script {
     pub text: String,
@@ -89,7 +94,9 @@ fn answer_of(verdict: Verdict) -> &'static str {
     }
 }
 
-/// A script of assertions in levels, with a check now and then and one at its end.
+/// The script of a seed: assertions in levels, with a check now and then and one at its end, each answered with so many
+/// rounds at most, and a question for its reason. A check whose plain search would be long is left out. The error is want
+/// of memory.
 pub fn script_of(alloc: Global, seed: u64, rounds: usize) -> Result<Script, AllocError> {
     let mut random = Random { state: seed };
     let mut script = Script {
