@@ -13,4 +13,3 @@ pub mod MarkLemmas
 pub mod EnteredLemmas
 pub mod ExactLemmas
 pub mod ExactLaws
-pub mod NoForallsLaws
