@@ -1,16 +1,18 @@
 -- What holds of a list of matchers after they worked.
-use Rattle.std.proofs.Common.{◌≡◌, ℕ, ◌+◌, List, [], ◌∷◌, ◌++◌, Option, Some, None, ap, sym, ◌∙◌, arith, All}
+use Rattle.std.proofs.Common.{◌≡◌, ℕ, ◌+◌, ◌<◌, List, [], ◌∷◌, ◌++◌, Option, Some, None, Ok, Err, OnOk, get_or, set, length, replicate, All, refl, ap, sym, subst, ◌∙◌, arith}
+use Rattle.std.specs.declared.result.Result.{Result}
 use Rattle.std.specs.List.{AllZip}
-use Rattle.std.proofs.lemmas.List.Elements.{All-append, All-nil}
+use lib.ListN.{length-append, length-replicate}
+use Rattle.std.proofs.lemmas.List.Elements.{All-append, All-nil, All-cons, All-head, All-tail, All-replicate}
 use Rattle.crossbeam_deque.specs.Handles.{stealer_deque, worker_flavor}
 use Rattle.match_machine.specs.Answers.{Answered}
 use Rattle.match_pool.specs.declared.thief.Thief.{Thief}
 use Rattle.match_pool.specs.declared.matcher.Matcher.{Matcher}
-use Rattle.match_pool.specs.Once.{items_of}
-use Rattle.match_pool.specs.Stealing.{Owner, Fits, IsSameOwner, robbed}
-use Rattle.match_pool.specs.Weights.{weigh}
-use Rattle.match_pool.specs.Ring.{HasWorked, Follow, IsRing, answers_by, pushed_by, starved_by, taken_by}
-use Rattle.match_pool.proofs.Weighing.{weigh-append, items-append}
+use Rattle.match_pool.specs.Once.{items_of, IsEachOnce}
+use Rattle.match_pool.specs.Stealing.{Owner, Fits, IsSameOwner, known, robbed, stolen}
+use Rattle.match_pool.specs.Weights.{weigh, weigh_below}
+use Rattle.match_pool.specs.Ring.{HasWorked, Follow, IsAlone, IsFresh, IsOneOf, IsRing, answers_by, pushed_by, starved_by, taken_by, workers_by}
+use Rattle.match_pool.proofs.Weighing.{each-once, weigh-append, weigh-set, items-append}
 
 -- who fits a deque still does after work
 fits-kept : (r s : Option Thief) (o w : Owner) → IsSameOwner o w → robbed s ≡ robbed r → Fits r o → Fits s w
@@ -54,3 +56,86 @@ answers-by P [] [] z = All-nil P
 answers-by P [] (v ∷ ws) z = absurd z
 answers-by P (m ∷ ms) [] z = absurd z
 answers-by P (m ∷ ms) (v ∷ ws) z = All-append P v.found.answers.items (answers_by ws) z.0.answers (answers-by P ms ws z.1)
+
+-- what is said of Ok by two clauses
+pub on-ok-both : {T E P Q : Type 0} (r : Result T E) → OnOk r P → OnOk r Q → OnOk r (P × Q)
+on-ok-both (Ok x) p q = (p, q)
+on-ok-both (Err e) p q = tt
+
+-- the matcher with another deque's owner and another thief
+abbrev pub linked : Matcher → Owner → Option Thief → Matcher
+linked m own next = record { worker = m.worker; own = own; next = next; found = m.found }
+
+pub linked-fresh : (workers : ℕ) (m : Matcher) (own : Owner) (next : Option Thief) (thief : Thief) (more : List Matcher) → IsAlone workers m → worker_flavor own ≡ worker_flavor m.own → (known own).taken ≡ (known m.own).taken
+    → Fits (Some thief) own → stolen next ≡ [] → All IsFresh more × All (IsOneOf workers) more → All IsFresh (linked m own next ∷ more) × All (IsOneOf workers) (linked m own next ∷ more)
+linked-fresh workers m own next thief more alone flavor taken fits none rest =
+    let fresh : IsFresh (linked m own next) = record {
+      fifo = flavor ∙ alone.fresh.fifo;
+      part = (let one = fits.0 in omega arith);
+      taken = taken ∙ alone.fresh.taken;
+      stolen = none;
+      answers = alone.fresh.answers;
+      starved = alone.fresh.starved;
+    } in
+    (All-cons IsFresh (linked m own next) more fresh rest.0, All-cons (IsOneOf workers) (linked m own next) more alone.one rest.1)
+
+-- one number was pushed to the matcher at the place, or starved
+pub dealt-one : (ms : List Matcher) (at number : ℕ) (d m : Matcher) (starved starved' : List ℕ) (h : ℕ → ℕ) → at < length ms
+    → weigh h (known m.own).pushed + weigh h starved' ≡ weigh h (known (get_or ms at d).own).pushed + weigh h starved + h number
+    → pushed_by h (set ms at m) + weigh h starved' ≡ pushed_by h ms + weigh h starved + h number
+dealt-one ms at number d m starved starved' h below e = omega (arith, e, weigh-set (λ (m : Matcher). weigh h (known m.own).pushed) ms at m d below)
+
+-- the deque of the first matcher was closed, and what it found was put last
+pub gathers : (h : ℕ → ℕ) (m : Matcher) (more rest : List Matcher) (o : Owner) (next next' : Option Thief) (s0 s1 s2 s3 : List ℕ) → rest ≡ m ∷ more
+    → weigh h (known m.own).pushed + weigh h s0 ≡ weigh h (known m.own).taken + weigh h (stolen next) + weigh h s1
+    → s2 ≡ s1 ++ m.found.starved.items → next' ≡ m.next
+    → weigh h s2 + weigh h (known o).pushed + pushed_by h more + starved_by h more ≡ weigh h s3 + weigh h (known o).taken + weigh h (stolen next') + taken_by h more
+    → weigh h s0 + weigh h (known o).pushed + pushed_by h rest + starved_by h rest ≡ weigh h s3 + weigh h (known o).taken + weigh h (stolen next) + taken_by h rest
+gathers h m more rest o next next' s0 s1 s2 s3 whole closed put next-is rest-is =
+    let s = ap (weigh h) put in
+    let t = ap (λ (r : Option Thief). weigh h (stolen r)) next-is in
+    rw whole (omega (arith, closed, s, t, rest-is, weigh-append h s1 m.found.starved.items))
+
+-- what the first matcher found was put last, and the passes of all were taken back
+pub gathers-all : (h : ℕ → ℕ) (m : Matcher) (more ms : List Matcher) (next : Option Thief) (s0 s1 s2 : List ℕ) → ms ≡ m ∷ more
+    → s1 ≡ s0 ++ m.found.starved.items → next ≡ m.next
+    → weigh h s1 + weigh h (known m.own).pushed + pushed_by h more + starved_by h more ≡ weigh h s2 + weigh h (known m.own).taken + weigh h (stolen next) + taken_by h more
+    → weigh h s0 + pushed_by h ms + starved_by h ms ≡ weigh h s2 + taken_by h ms
+gathers-all h m more ms next s0 s1 s2 whole put next-is rest-is =
+    let s = ap (weigh h) put in
+    let t = ap (λ (r : Option Thief). weigh h (stolen r)) next-is in
+    rw whole (omega (arith, s, t, rest-is, weigh-append h s0 m.found.starved.items))
+
+pub AllZip-join : {A B : Type 0} (R : A → B → Type 0) (xs ys : List A) (us vs : List B) → AllZip R xs us → AllZip R ys vs → AllZip R (xs ++ ys) (us ++ vs)
+AllZip-join R [] ys [] vs h k = k
+AllZip-join R [] ys (u ∷ us) vs h k = absurd h
+AllZip-join R (x ∷ xs) ys [] vs h k = absurd h
+AllZip-join R (x ∷ xs) ys (u ∷ us) vs h k = (h.0, AllZip-join R xs ys us vs h.1 k)
+
+pub workers-length : (ms : List Matcher) → length (workers_by ms) ≡ length (answers_by ms)
+workers-length [] = refl
+workers-length (m ∷ ms) =
+    let n = length m.found.answers.items in
+    omega (arith, length-append (replicate n m.worker) (workers_by ms), length-append m.found.answers.items (answers_by ms), length-replicate n m.worker, workers-length ms)
+
+pub workers-below : (P : Answered → Type 0) (workers : ℕ) (ms ws : List Matcher) → AllZip (HasWorked P) ms ws → All (IsOneOf workers) ms → All (λ (worker : ℕ). worker < workers) (workers_by ws)
+workers-below P workers [] [] z all = All-nil (λ (worker : ℕ). worker < workers)
+workers-below P workers [] (v ∷ ws) z all = absurd z
+workers-below P workers (m ∷ ms) [] z all = absurd z
+workers-below P workers (m ∷ ms) (v ∷ ws) z all =
+    let B : ℕ → Type 0 = λ worker. worker < workers in
+    let here : v.worker < workers = subst B (sym z.0.worker) (All-head (IsOneOf workers) m ms all) in
+    All-append B (replicate (length v.found.answers.items) v.worker) (workers_by ws) (All-replicate B (length v.found.answers.items) v.worker here)
+        (workers-below P workers ms ws z.1 (All-tail (IsOneOf workers) m ms all))
+
+-- where all numbers below the bound were pushed or starved, and the matchers worked and all was gathered, each of these
+-- numbers stands once
+pub once-by : (P : Answered → Type 0) (n : ℕ) (ms ws : List Matcher) (answers : List Answered) (s0 starved shut : List ℕ) → AllZip (HasWorked P) ms ws
+    → ((h : ℕ → ℕ) → pushed_by h ms + weigh h s0 ≡ weigh_below h n) → answers ≡ answers_by ws
+    → ((h : ℕ → ℕ) → weigh h s0 + pushed_by h ws + starved_by h ws ≡ weigh h starved + taken_by h ws) → shut ≡ []
+    → IsEachOnce n (items_of answers ++ (starved ++ shut))
+once-by P n ms ws answers s0 starved shut z dealt is gathered none =
+    each-once n (items_of answers ++ (starved ++ shut)) λ h.
+        let a = ap (λ (l : List Answered). weigh h (items_of l)) is in
+        let e = ap (weigh h) none in
+        omega (arith, a, e, dealt h, gathered h, told-by P ms ws z h, pushed-by P ms ws z h, weigh-append h (items_of answers) (starved ++ shut), weigh-append h starved shut)

@@ -1,10 +1,10 @@
 -- What lists weigh.
-use Rattle.std.proofs.Common.{◌≡◌, ℕ, zero, suc, ◌+◌, ◌<◌, ◌==◌, get_or, set, Option, None, Some, MatchOption, cond, ltb, List, [], ◌∷◌, ◌++◌, map, length, refl, ap, arith, ⊎_elim}
+use Rattle.std.proofs.Common.{◌≡◌, ℕ, zero, suc, ◌+◌, ◌<◌, ◌==◌, get_or, set, Option, None, Some, MatchOption, cond, ltb, List, [], ◌∷◌, ◌++◌, map, length, refl, ap, ◌∙◌, arith}
 use Rattle.std.proofs.lemmas.Bool.Decides.{nat_tests}
 use Rattle.std.specs.List.{sum_by, count_by}
 use Rattle.std.proofs.lemmas.List.Sums.{sum_by-cons}
 use Rattle.match_machine.specs.Answers.{Answered}
-use Rattle.match_pool.specs.Once.{items_of}
+use Rattle.match_pool.specs.Once.{items_of, IsEachOnce}
 use Rattle.match_pool.specs.Stealing.{weight_of}
 use Rattle.match_pool.specs.Weights.{weigh, weigh_below}
 
@@ -42,3 +42,7 @@ weigh_is_sum h (x ∷ xs) = omega (arith, sum_by-cons h x xs, weigh_is_sum h xs)
 pub below_once : (x n : ℕ) → weigh_below (λ y. cond (y == x) 1 0) n ≡ cond (ltb x n) 1 0
 below_once x zero = grind (arith, nat_tests)
 below_once x (suc n) = grind (arith, nat_tests, below_once x n)
+
+-- a list of numbers that weighs what the numbers below the bound weigh has each of them once
+pub each-once : (n : ℕ) (xs : List ℕ) → ((h : ℕ → ℕ) → weigh h xs ≡ weigh_below h n) → IsEachOnce n xs
+each-once n xs all x = weigh_is_sum (λ y. cond (y == x) 1 0) xs ∙ (all (λ y. cond (y == x) 1 0) ∙ below_once x n)
