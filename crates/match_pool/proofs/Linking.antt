@@ -8,6 +8,8 @@ use Rattle.crossbeam_deque.specs.Handles.{stealer_deque, worker_flavor}
 use Rattle.match_machine.specs.Answers.{Answered}
 use Rattle.match_pool.specs.declared.thief.Thief.{Thief}
 use Rattle.match_pool.specs.declared.matcher.Matcher.{Matcher}
+use Rattle.match_pool.specs.declared.findings.Findings.{Findings}
+use Rattle.match_pool.specs.Found.{weight}
 use Rattle.match_pool.specs.Once.{items_of, IsEachOnce}
 use Rattle.match_pool.specs.Stealing.{Owner, Fits, IsSameOwner, known, robbed, stolen}
 use Rattle.match_pool.specs.Weights.{weigh, weigh_below}
@@ -42,7 +44,7 @@ told-by P (m ∷ ms) [] z h = absurd z
 told-by P (m ∷ ms) (v ∷ ws) z h =
     let xs = v.found.answers.items in
     let all : weigh h (items_of (xs ++ answers_by ws)) ≡ weigh h (items_of xs) + weigh h (items_of (answers_by ws)) =
-        ap (weigh h) (items-append xs (answers_by ws)) ∙ weigh-append h (items_of xs) (items_of (answers_by ws)) in
+    ap (weigh h) (items-append xs (answers_by ws)) ∙ weigh-append h (items_of xs) (items_of (answers_by ws)) in
     omega (arith, z.0.told h, told-by P ms ws z.1 h, all)
 
 pub pushed-by : (P : Answered → Type 0) (ms ws : List Matcher) → AllZip (HasWorked P) ms ws → (h : ℕ → ℕ) → pushed_by h ws ≡ pushed_by h ms
@@ -58,9 +60,9 @@ answers-by P (m ∷ ms) [] z = absurd z
 answers-by P (m ∷ ms) (v ∷ ws) z = All-append P v.found.answers.items (answers_by ws) z.0.answers (answers-by P ms ws z.1)
 
 -- what is said of Ok by two clauses
-pub on-ok-both : {T E P Q : Type 0} (r : Result T E) → OnOk r P → OnOk r Q → OnOk r (P × Q)
-on-ok-both (Ok x) p q = (p, q)
-on-ok-both (Err e) p q = tt
+pub on-ok-both : {T E : Type 0} (P Q : Type 0) (r : Result T E) → OnOk r P → OnOk r Q → OnOk r (P × Q)
+on-ok-both P Q (Ok x) p q = (p, q)
+on-ok-both P Q (Err e) p q = tt
 
 -- the matcher with another deque's owner and another thief
 abbrev pub linked : Matcher → Owner → Option Thief → Matcher
@@ -126,7 +128,7 @@ workers-below P workers (m ∷ ms) (v ∷ ws) z all =
     let B : ℕ → Type 0 = λ worker. worker < workers in
     let here : v.worker < workers = subst B (sym z.0.worker) (All-head (IsOneOf workers) m ms all) in
     All-append B (replicate (length v.found.answers.items) v.worker) (workers_by ws) (All-replicate B (length v.found.answers.items) v.worker here)
-        (workers-below P workers ms ws z.1 (All-tail (IsOneOf workers) m ms all))
+    (workers-below P workers ms ws z.1 (All-tail (IsOneOf workers) m ms all))
 
 -- where all numbers below the bound were pushed or starved, and the matchers worked and all was gathered, each of these
 -- numbers stands once
@@ -136,6 +138,15 @@ pub once-by : (P : Answered → Type 0) (n : ℕ) (ms ws : List Matcher) (answer
     → IsEachOnce n (items_of answers ++ (starved ++ shut))
 once-by P n ms ws answers s0 starved shut z dealt is gathered none =
     each-once n (items_of answers ++ (starved ++ shut)) λ h.
-        let a = ap (λ (l : List Answered). weigh h (items_of l)) is in
-        let e = ap (weigh h) none in
-        omega (arith, a, e, dealt h, gathered h, told-by P ms ws z h, pushed-by P ms ws z h, weigh-append h (items_of answers) (starved ++ shut), weigh-append h starved shut)
+    let a = ap (λ (l : List Answered). weigh h (items_of l)) is in
+    let e = ap (weigh h) none in
+    omega (arith, a, e, dealt h, gathered h, told-by P ms ws z h, pushed-by P ms ws z h, weigh-append h (items_of answers) (starved ++ shut), weigh-append h starved shut)
+
+pub once-alone : (n : ℕ) (found : Findings) (answers : List Answered) (starved shut : List ℕ) → ((h : ℕ → ℕ) → weight h found ≡ weigh_below h n) → answers ≡ found.answers.items → starved ≡ found.starved.items → shut ≡ []
+    → IsEachOnce n (items_of answers ++ (starved ++ shut))
+once-alone n found answers starved shut told a s none =
+    each-once n (items_of answers ++ (starved ++ shut)) λ h.
+    let a' = ap (λ (l : List Answered). weigh h (items_of l)) a in
+    let s' = ap (weigh h) s in
+    let e = ap (weigh h) none in
+    omega (arith, a', s', e, told h, weigh-append h (items_of answers) (starved ++ shut), weigh-append h starved shut)

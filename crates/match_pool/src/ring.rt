@@ -103,7 +103,13 @@ pub fn deal(
     ensures pushed { OnOk result ((h : ℕ → ℕ) → pushed_by h matchers.new + weigh h starved.new.items ≡ pushed_by h matchers.old + weigh h starved.old.items + weigh_below h count) }
 {
     for number in 0..count {
-        deal_one(matchers, (number % workers) as usize, number, starved, workers)?;
+        deal_one(
+            matchers,
+            (number % workers) as usize,
+            number,
+            starved,
+            workers,
+        )?;
     }
     Ok(())
 }

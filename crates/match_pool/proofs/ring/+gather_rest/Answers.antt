@@ -13,7 +13,7 @@ returns-clause-starved t c =
     let o = c.args.owner.now in
     let whole : c.args.rest.now ≡ m ∷ more = search rules in
     on_ok_weaker c.gather_rest.result
-        (λ (e : (h : ℕ → ℕ) → weigh h c.put_found.new.pieces.starved.items + weigh h (known o).pushed + pushed_by h more + starved_by h more ≡ weigh h c.gather_rest.new.pieces.starved.items + weigh h (known o).taken + weigh h (stolen c.take.result) + taken_by h more) h.
-            gathers h m more c.args.rest.now o c.args.next c.take.result c.args.pieces.now.starved.items c.close-2.new.starved.items c.put_found.new.pieces.starved.items c.gather_rest.new.pieces.starved.items whole
-                (c.in_ok-close.ensures h) c.in_ok-put_found.ensures.starved c.take.ensures.value (e h))
-        c.gather_rest.ensures.starved
+    (λ (e : (h : ℕ → ℕ) → weigh h c.put_found.new.pieces.starved.items + weigh h (known o).pushed + pushed_by h more + starved_by h more ≡ weigh h c.gather_rest.new.pieces.starved.items + weigh h (known o).taken + weigh h (stolen c.take.result) + taken_by h more) h.
+    gathers h m more c.args.rest.now o c.args.next c.take.result c.args.pieces.now.starved.items c.close-2.new.starved.items c.put_found.new.pieces.starved.items c.gather_rest.new.pieces.starved.items whole
+    (c.in_ok-close.ensures h) c.in_ok-put_found.ensures.starved c.take.ensures.value (e h))
+    c.gather_rest.ensures.starved

@@ -17,6 +17,6 @@ returns-clause-fresh t c =
     let whole : c.args.rest.now ≡ m ∷ c.in-Some.more.now = search rules in
     let alone : IsAlone workers m = All-head (IsAlone workers) m c.in-Some.more.now (subst (λ (l : List Matcher). All (IsAlone workers) l) whole c.requires.alone) in
     on_ok_weaker c.link_rest.result
-        (λ (e : (Follow c.args.owner.now next more × (stolen next ≡ [])) × (All IsFresh more × All (IsOneOf workers) more)).
-            linked-fresh workers m own next c.in_ok-thief_of.field-0 more alone c.in_ok-thief_of.ensures.flavor c.in_ok-thief_of.ensures.taken c.in_ok-thief_of.ensures.fits e.0.1 e.1)
-        (on-ok-both c.link_rest.result c.link_rest.ensures.follow c.link_rest.ensures.fresh)
+    (λ (e : (Follow c.args.owner.now next more × (stolen next ≡ [])) × (All IsFresh more × All (IsOneOf workers) more)).
+    linked-fresh workers m own next c.in_ok-thief_of.field-0 more alone c.in_ok-thief_of.ensures.flavor c.in_ok-thief_of.ensures.taken c.in_ok-thief_of.ensures.fits e.0.1 e.1)
+    (on-ok-both (Follow c.args.owner.now next more × (stolen next ≡ [])) (All IsFresh more × All (IsOneOf workers) more) c.link_rest.result c.link_rest.ensures.follow c.link_rest.ensures.fresh)

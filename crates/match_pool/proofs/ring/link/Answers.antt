@@ -17,6 +17,6 @@ returns-clause-fresh c =
     let whole : c.args.matchers.now ≡ m ∷ c.in-Some.rest.now = search rules in
     let alone : IsAlone workers m = All-head (IsAlone workers) m c.in-Some.rest.now (subst (λ (l : List Matcher). All (IsAlone workers) l) whole c.requires.alone) in
     on_ok_weaker c.link_rest.result
-        (λ (e : (Follow own next more × (stolen next ≡ [])) × (All IsFresh more × All (IsOneOf workers) more)).
-            linked-fresh workers m own next c.in_ok-closing.closing more alone c.in_ok-closing.ensures.flavor c.in_ok-closing.ensures.taken c.in_ok-closing.ensures.fits e.0.1 e.1)
-        (on-ok-both c.link_rest.result c.link_rest.ensures.follow c.link_rest.ensures.fresh)
+    (λ (e : (Follow own next more × (stolen next ≡ [])) × (All IsFresh more × All (IsOneOf workers) more)).
+    linked-fresh workers m own next c.in_ok-closing.closing more alone c.in_ok-closing.ensures.flavor c.in_ok-closing.ensures.taken c.in_ok-closing.ensures.fits e.0.1 e.1)
+    (on-ok-both (Follow own next more × (stolen next ≡ [])) (All IsFresh more × All (IsOneOf workers) more) c.link_rest.result c.link_rest.ensures.follow c.link_rest.ensures.fresh)
