@@ -1,4 +1,6 @@
 pub mod Walk
+pub mod Ahead
+pub mod Joining
 pub mod Told
 pub mod Answers
 pub mod Runs
