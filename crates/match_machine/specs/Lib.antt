@@ -8,3 +8,4 @@ pub mod Batch
 pub mod Holds
 pub mod Values
 pub mod Gathered
+pub mod Roots

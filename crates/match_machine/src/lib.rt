@@ -16,6 +16,7 @@ pub mod item;
 mod joining;
 pub mod laws;
 mod look;
+pub mod roots;
 pub mod run;
 mod task;
 pub mod tuple_list;
