@@ -11,3 +11,4 @@ pub mod PlaceLemmas
 pub mod AheadLemmas
 pub mod ClimbLemmas
 pub mod JoinLemmas
+pub mod RootLemmas
