@@ -13,6 +13,6 @@ mod status;
 mod unanswered;
 mod verdict;
 
-pub use laws::{front_law, one_answer};
+pub use laws::{front_law, one_answer, sat_is_right, unsat_is_right};
 pub use run::{report, run_alone};
 pub use status::Status;

@@ -5,6 +5,7 @@ mod faults;
 mod fixture;
 mod foralls;
 mod library;
+mod plain;
 mod random;
 mod solve;
 mod texts;

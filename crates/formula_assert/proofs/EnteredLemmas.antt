@@ -1,8 +1,7 @@
 -- A node that was entered, asserted or refuted.
-use Rattle.std.proofs.Common.{◌≡◌, ℕ, true, false, List, [], ◌∷◌, length, Result, Ok, Err, All, refl, sym, subst, append-nil}
+use Rattle.std.proofs.Common.{◌≡◌, ℕ, true, false, List, [], length, Result, Ok, Err, All, refl, sym, subst, append-nil}
 use Rattle.std.specs.Prelude.{OnOk, OnErr}
-use Rattle.std.proofs.lemmas.List.Elements.{All-nil, All-cons}
-use Rattle.graph_meaning.specs.declared.op.Op.{Op}
+use Rattle.std.proofs.lemmas.List.Elements.{All-nil}
 use Rattle.graph_meaning.specs.declared.op.Op.TheVariants.{Merge, Differ}
 use Rattle.graph_meaning.specs.Standing.{terms_of}
 use Rattle.graph_meaning.specs.State.{GraphState, replay}
@@ -13,11 +12,8 @@ use Rattle.formula_assert.specs.declared.level.Level.{Level}
 use Rattle.formula_assert.specs.Held.{held, refuting_of}
 use Rattle.formula_assert.specs.InLevel.{IsInLevel, GrowsGraph, HoldsMore, HoldsMoreOver}
 use Rattle.formula_assert.specs.StackInside.{IsStackOf, assertions_with}
-use Rattle.formula_assert.proofs.Growth.{grows_none, terms_longer, NodesStand-more}
+use Rattle.formula_assert.proofs.Growth.{one_inside, grows_none, terms_longer, NodesStand-more}
 use Rattle.formula_assert.proofs.StackLemmas.{grows_nothing, saved_same, stack_grown}
-
-one_inside : (op : Op) → IsInLevel op → All IsInLevel (op ∷ [])
-one_inside op inside = All-cons IsInLevel op [] inside (All-nil IsInLevel)
 
 -- what refutes a node opens no level and ends none
 refuting_inside : (node : Node) → All IsInLevel (refuting_of node)

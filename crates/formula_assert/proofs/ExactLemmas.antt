@@ -1,7 +1,7 @@
 -- What is held stays exactly what the asserted nodes stand for.
 use Rattle.std.proofs.Common.{◌≡◌, ◌⊎◌, inl, inr, ℕ, zero, suc, ◌<◌, true, false, List, [], ◌∷◌, ◌++◌, length, map, slice_get, Some, All, Contains, refl, sym, ap, subst, ◌∙◌, append-nil, append_assoc, arith}
 use Rattle.std.proofs.lemmas.List.{map-append}
-use Rattle.std.proofs.lemmas.List.Elements.{All-nil, All-cons, All-head, All-tail, All-contains}
+use Rattle.std.proofs.lemmas.List.Elements.{All-nil, All-head, All-tail, All-contains}
 use Rattle.std.proofs.lemmas.List.Elements.{Contains-append_left, Contains-append_right, Contains-append_cases}
 use Rattle.std.proofs.lemmas.List.Elements.{Contains-push, Contains-push_cases}
 use Rattle.std.proofs.lemmas.Option.{none-some}
@@ -18,6 +18,7 @@ use Rattle.formula_assert.specs.Held.{Held, held, triggers_at, operations_of, co
 use Rattle.formula_assert.specs.Asserts.{Asserts, AssertsAll, stands, holds, none, more}
 use Rattle.formula_assert.specs.Exactly.{operations_in, IsDone, IsOfAsserted, HoldsExactly}
 use Rattle.formula_assert.specs.InLevel.{IsInLevel}
+use Rattle.formula_assert.proofs.Growth.{one_inside}
 use Rattle.formula_assert.proofs.OperationLemmas.{all_live}
 
 -- an operation more
@@ -42,9 +43,6 @@ ops_replayed graph (op ∷ ops) each =
     ops_replayed (state_after graph op) ops (All-tail IsInLevel op ops each)
     ∙ ap (λ (list : List Op). list ++ ops) (one_replayed graph op (All-head IsInLevel op ops each))
     ∙ append_assoc (operations_in graph.standing) (op ∷ []) ops
-
-one_inside : (op : Op) → IsInLevel op → All IsInLevel (op ∷ [])
-one_inside op inside = All-cons IsInLevel op [] inside (All-nil IsInLevel)
 
 -- what a node stands for opens no level and ends none
 operations_inside : (formulas : Formulas) (node : Node) → All IsInLevel (operations_of formulas node)

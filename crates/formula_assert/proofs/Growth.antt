@@ -32,9 +32,13 @@ grows_both first second third one two = record {
   after_is = two.after_is ∙ ap (λ (g : GraphState). replay g two.operations) one.after_is ∙ sym (replay-append first one.operations two.operations);
 }
 
+-- one operation that opens no level and ends none
+pub one_inside : (op : Op) → IsInLevel op → All IsInLevel (op ∷ [])
+one_inside op inside = All-cons IsInLevel op [] inside (All-nil IsInLevel)
+
 -- one operation came
 pub grows_by : (before after : GraphState) (op : Op) → IsInLevel op → after ≡ state_after before op → GrowsGraph before after
-grows_by before after op inside is = record { operations = op ∷ []; in_level = All-cons IsInLevel op [] inside (All-nil IsInLevel); after_is = is }
+grows_by before after op inside is = record { operations = op ∷ []; in_level = one_inside op inside; after_is = is }
 
 pub all_adding : (rows : List TermRow) → All IsInLevel (map adding rows)
 all_adding [] = All-nil IsInLevel

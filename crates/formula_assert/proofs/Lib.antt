@@ -13,5 +13,4 @@ pub mod MarkLemmas
 pub mod EnteredLemmas
 pub mod ExactLemmas
 pub mod ExactLaws
-pub mod NoForallsLaws
 pub mod StandLemmas

@@ -1,5 +1,5 @@
 -- Unions that came one after another, and operations that make none.
-use Rattle.std.proofs.Common.{◌≡◌, ◌⊎◌, inl, inr, ⊎_elim, ℕ, zero, suc, ◌+◌, ◌<◌, true, false, List, [], ◌∷◌, ◌++◌}
+use Rattle.std.proofs.Common.{◌≡◌, ◌⊎◌, inl, inr, ⊎_elim, ℕ, zero, suc, ◌+◌, true, false, List, [], ◌∷◌, ◌++◌}
 use Rattle.std.proofs.Common.{length, take, map, slice_get, Some, Result, Ok, Err, All, refl, sym, ap}
 use Rattle.std.proofs.Common.{subst, ◌∙◌, append-nil, append_assoc, arith}
 use Rattle.std.specs.Prelude.{OnOk}
@@ -79,9 +79,6 @@ module _ (a b c : List Done) (one two : List Union) (same_terms : length (terms_
 
   before_later : (i k : ℕ) → i ≡ length one + k → one ++ take k two ≡ take i (one ++ two)
   before_later i k is = sym (ap (λ (m : ℕ). take m (one ++ two)) is ∙ take-append-add one two k)
-
-  abbrev BelowAll : Union → Type 0
-  BelowAll u = (u.left < n) × (u.right < n)
 
   abbrev LedAt : Union → List Union → Type 0
   LedAt u earlier = Leads (Generated (WasSame a n) earlier) u

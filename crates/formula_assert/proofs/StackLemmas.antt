@@ -3,11 +3,10 @@ use Rattle.std.proofs.Common.{◌≡◌, ℕ, ◌+◌, ◌<◌, ◌≤◌, List,
 use Rattle.std.specs.List.{before_last}
 use Rattle.std.proofs.Math.Seq.{take-append_seam}
 use Rattle.std.proofs.lemmas.List.{take-take, take-append-le, take_all, length-append, length-take, reverse-append}
-use Rattle.std.proofs.lemmas.Option.{none-some}
 use Rattle.graph_meaning.specs.declared.done.Done.{Done}
 use Rattle.graph_meaning.specs.declared.op.Op.TheVariants.{Push, Pop}
 use Rattle.graph_terms.specs.declared.term_row.TermRow.{TermRow}
-use Rattle.graph_meaning.specs.State.{GraphState, first_state, state_after}
+use Rattle.graph_meaning.specs.State.{GraphState, state_after}
 use Rattle.formula_draft.specs.Draft.{Formula}
 use Rattle.formula_table.specs.declared.enter_fault.EnterFault.{EnterFault}
 use Rattle.formula_table.specs.declared.enter_fault.EnterFault.TheVariants.{TermsFull, NodesFull, Memory}
@@ -18,7 +17,7 @@ use Rattle.graph_meaning.specs.Standing.{is_push, levels_of, terms_of}
 use Rattle.formula_table.specs.declared.node.Node.{Node}
 use Rattle.formula_table.specs.declared.node.Node.TheVariants.{Forall}
 use Rattle.formula_table.specs.declared.table_forall.TableForall.{TableForall}
-use Rattle.formula_table.specs.Formulas.{Formulas, IsFormulaTable, GrowsTable, NamesFirst, NodesStand, first_formulas, no_formulas}
+use Rattle.formula_table.specs.Formulas.{Formulas, IsFormulaTable, GrowsTable, NamesFirst, NodesStand, first_formulas}
 use Rattle.formula_assert.specs.declared.level.Level.{Level}
 use Rattle.formula_assert.specs.Assertions.{Saved, Assertions, pushed, popped, restored}
 use Rattle.formula_assert.specs.InLevel.{GrowsGraph, KeepsLevels, StandAlike}
@@ -121,10 +120,6 @@ pop_back before after keeps =
     let alike = pop_gone (pushed before) after (omega arith) keeps in
     record { standing = alike.standing ∙ before_last-opened before.graph.standing before.graph.done; limit = alike.limit; formulas = alike.formulas; asserted = alike.asserted; saved = alike.saved }
 
--- a stack without levels
-pub stack_new : (terms nodes : ℕ) → IsStackOf (first_state terms) (no_formulas nodes) [] []
-stack_new terms nodes = record { fall = tt; terms_stand = λ n node at. absurd (none-some node at); saved_stand = refl; few = omega arith }
-
 -- what is known of a stack in front of its last level
 module _ (graph : GraphState) (table : Formulas) (asserted : List ℕ) (items rest : List Level) (level : Level) (is : items ≡ rest ++ level ∷ []) (stack : IsStackOf graph table asserted items) where
   turned : reverse items ≡ level ∷ reverse rest
@@ -179,11 +174,7 @@ module _ (graph later : GraphState) (table : Formulas) (asserted : List ℕ) (it
   all_opened : map (saved_of table asserted) (reverse more) ≡ saves table asserted ∷ map (saved_of table asserted) (reverse items)
   all_opened = ap (map (saved_of table asserted)) opened ∙ ap (λ (first : Saved). first ∷ map (saved_of table asserted) (reverse items)) saved_whole
 
-  -- saves what stands
-  pub view_pushed : assertions_with later table asserted more ≡ pushed (assertions_with graph table asserted items)
-  view_pushed = cc (graph_is, all_opened)
-
-  -- and leaves a stack
+  -- leaves a stack
   pub stack_pushed : length items + 1 < 2 ^ 32 → IsStackOf later table asserted more
   stack_pushed room =
       let longer : length more ≡ length items + 1 = ap length is ∙ length-append items (level ∷ []) in

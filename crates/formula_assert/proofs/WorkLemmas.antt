@@ -2,7 +2,7 @@
 use Rattle.std.proofs.Common.{◌≡◌, ℕ, zero, suc, ◌+◌, ◌-◌, ◌<◌, ◌≤◌, Bool, true, false, cond, ◌||◌, nat_eq, List, [], ◌∷◌, ◌++◌, length, reverse, slice_get, Some, All, Contains, refl, sym, ap, subst, ◌∙◌, arith}
 use Rattle.std.specs.List.{list_any}
 use Rattle.std.proofs.lemmas.List.{reverse-append, reverse-reverse, length-append, length-reverse, get_or-reverse, get_or_append_left}
-use Rattle.std.proofs.lemmas.List.Elements.{All-nil, All-cons, All-append, All-weaker, All-contains, Contains-append_right}
+use Rattle.std.proofs.lemmas.List.Elements.{All-nil, All-cons, All-append, All-weaker}
 use Rattle.std.proofs.lemmas.Bool.Decides.{nat_tests}
 use Rattle.std.proofs.lemmas.Cmp.{nat_eq_equiv}
 use Rattle.std.proofs.lemmas.List.Folds.{list_any-append}
@@ -69,10 +69,6 @@ module _ (formulas : Formulas) where
   module _ (root n : ℕ) (before now : Held) (all work : List ℕ) (is : all ≡ work ++ n ∷ []) (way : UnderWay root before now all) where
     popped_all : All (λ k. k < length formulas.nodes) (work ++ n ∷ [])
     popped_all = subst (All (λ k. k < length formulas.nodes)) is way.below
-
-    -- the node that was taken off stands
-    pub last_stands : n < length formulas.nodes
-    last_stands = All-contains (λ k. k < length formulas.nodes) (work ++ n ∷ []) n popped_all (Contains-append_right work (n ∷ []) n (0, omega arith, refl))
 
     pub way_goes_on : IsFormulaTable formulas → (after : Held) (rest : List ℕ) → AssertsNext formulas n now work after rest → HoldsMore now after → UnderWay root before after rest
     way_goes_on table after rest step grew = record {

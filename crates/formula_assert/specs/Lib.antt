@@ -6,7 +6,6 @@ pub mod Tables
 pub mod AssertFormula
 pub mod AssertInstance
 pub mod Exactly
-pub mod NoForalls
 pub mod InLevel
 pub mod Mark
 pub mod Stands

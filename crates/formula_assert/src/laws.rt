@@ -1,5 +1,5 @@
 //! Laws of the definitions, each on a function that does nothing.
-ghost use Rattle.std.specs.Prelude.{◌≡◌, ◌≢◌, [], ◌++◌, ℕ, ◌<◌, List, length};
+ghost use Rattle.std.specs.Prelude.{◌≡◌, ◌≢◌, ◌++◌, ℕ, ◌<◌, List, length};
 ghost use Rattle.graph_meaning.specs.declared.done.Done.{Done};
 ghost use Rattle.formula_draft.specs.Draft.{Formula, IsFormula};
 ghost use Rattle.formula_table.specs.declared.enter_fault.EnterFault.{EnterFault as Fault};
@@ -13,7 +13,6 @@ ghost use Rattle.formula_assert.specs.AssertFormula.{AssertsFormula, StopsAssert
 ghost use Rattle.formula_assert.specs.AssertInstance.{TermsStand, EntersBody, AssertsInstance, StopsAssertInstance};
 ghost use Rattle.formula_assert.specs.Tables.{AreTables};
 ghost use Rattle.formula_assert.specs.Exactly.{AreExact};
-ghost use Rattle.formula_assert.specs.NoForalls.{HasNoForalls};
 ghost use Rattle.formula_assert.specs.Stands.{AreAssertions};
 ghost use Rattle.formula_assert.specs.InLevel.{HoldsMoreOver, KeepsLevels, StandAlike};
 
@@ -63,16 +62,6 @@ pub fn exactly_law()
     ensures stopped { (formula : Formula) (before after : Assertions) (fault : Fault) → AreExact before → StopsAssert formula before after fault → AreExact after }
     ensures asserted_instance { (forall : ℕ) (tuple : List ℕ) (before after : Assertions) → AreTables before → AreExact before → AssertsInstance forall tuple before after → AreExact after }
     ensures stopped_instance { (forall : ℕ) (tuple : List ℕ) (before after : Assertions) (fault : Fault) → AreExact before → StopsAssertInstance forall tuple before after fault → AreExact after }
-{}
-
-/// No forall stands, now and when each level was opened: so it is at the start, after a level was opened or ended, after a
-/// formula without foralls was asserted, and after a formula was refused.
-pub fn ground_law()
-    ensures start { (terms nodes : ℕ) → HasNoForalls (no_assertions terms nodes) }
-    ensures opened { (now : Assertions) → HasNoForalls now → HasNoForalls (pushed now) }
-    ensures ended { (now : Assertions) → HasNoForalls now → HasNoForalls (popped now) }
-    ensures asserted { (formula : Formula) (before after : Assertions) → formula.foralls ≡ [] → HasNoForalls before → AssertsFormula formula before after → HasNoForalls after }
-    ensures stopped { (formula : Formula) (before after : Assertions) (fault : Fault) → HasNoForalls before → StopsAssert formula before after fault → HasNoForalls after }
 {}
 
 /// Over tables a formula is asserted in one way, and then not refused, and it is refused in one way, each but for want of memory;

@@ -1,4 +1,3 @@
-pub mod NthLemmas
 pub mod GatherLemmas
 pub mod StepLemmas
 pub mod RootLemmas

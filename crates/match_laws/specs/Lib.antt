@@ -1,1 +1,5 @@
 pub mod StepLaw
+pub mod Given
+pub mod Due
+pub mod OwedLaw
+pub mod History

@@ -8,6 +8,8 @@ ghost use Rattle.graph_meaning.specs.Lawful.{IsLawful};
 ghost use Rattle.graph_meaning.specs.Match.{IsItemMatch, IsMatch};
 ghost use Rattle.graph_meaning.specs.Same.{IsLeader, Same};
 ghost use Rattle.graph_meaning.specs.Standing.{terms_of};
+ghost use Rattle.match_laws.specs.History.{GivesLaw, HistoryLaw, StepHolds};
+ghost use Rattle.match_laws.specs.OwedLaw.{CompleteLaw, CoversLaw, GivenLaw, JustifiedLaw, LateLaw, NothingCameLaw, SettledLaw, SoundLaw};
 ghost use Rattle.match_laws.specs.StepLaw.{AreSame, Decided, StepLaw};
 
 /// Whether two terms are equal can be told, and each term has a leader.
@@ -29,4 +31,29 @@ pub fn stay_law()
         IsMatch (before ++ more) trigger binding → IsItemMatch (before ++ more) trigger start root binding }
     ensures claim { (earlier before more : List Done) (claim : Claim) → IsLawful (before ++ more) → Justified earlier before claim → Justified earlier (before ++ more) claim }
     ensures front { (before more now : List Done) (claim : Claim) → IsLawful (before ++ more) → Justified (before ++ more) now claim → Justified before now claim }
+{}
+
+/// An operation that adds at most one term, and lists its unions, gives exactly the claims that it justifies.
+pub fn given_law()
+    ensures { GivenLaw }
+{}
+
+/// What is owed stays complete, justified and sound when operations come that give their claims; claims that were answered
+/// in an earlier list may go, where those that came since stay; and where all were answered, each match is stored.
+pub fn owed_law()
+    ensures complete { CompleteLaw }
+    ensures justified { JustifiedLaw }
+    ensures sound { SoundLaw }
+    ensures nothing_came { NothingCameLaw }
+    ensures covers { CoversLaw }
+    ensures late { LateLaw }
+    ensures settled { SettledLaw }
+{}
+
+/// Through any steps, pushes and pops among them, what is owed stays complete and justified, and what is stored sound. The
+/// claims of an operation's term, trigger and unions are what it has to give.
+pub fn history_law()
+    ensures step { StepHolds }
+    ensures history { HistoryLaw }
+    ensures gives { GivesLaw }
 {}

@@ -7,3 +7,8 @@ pub mod ValueLemmas
 pub mod ParentLemmas
 pub mod GainLaws
 pub mod GatherLemmas
+pub mod PlaceLemmas
+pub mod AheadLemmas
+pub mod ClimbLemmas
+pub mod JoinLemmas
+pub mod RootLemmas

@@ -1,4 +1,6 @@
 pub mod Walk
+pub mod Ahead
+pub mod Joining
 pub mod Told
 pub mod Answers
 pub mod Runs
@@ -6,3 +8,4 @@ pub mod Batch
 pub mod Holds
 pub mod Values
 pub mod Gathered
+pub mod Roots

@@ -11,13 +11,10 @@ use Rattle.match_store.specs.declared.instance.Instance.{Instance}
 use Rattle.match_store.specs.Candidates.{AreDoneKeys, HaveMatches, IsLeaderKey}
 use Rattle.match_store.specs.DoneInstances.{AreSameEach}
 use Rattle.match_store.specs.KeySet.{GainsKeys}
-use Rattle.match_store.proofs.ListLemmas.{nothing_in, Contains-map, Contains-from_map}
+use Rattle.match_store.proofs.ListLemmas.{Contains-map, Contains-from_map}
 use Rattle.match_store.proofs.SameLemmas.{each_push, each_stand, leads_itself, one_leader_each}
 
 module _ (standing : List Done) where
-  pub matches_none : HaveMatches standing [] []
-  matches_none key = (nothing_in key, λ is. nothing_in is.trigger is.among)
-
   -- the matches of one trigger more come last
   pub matches_more : (triggers : List Trigger) (trigger : Trigger) (tuples keys : List (List ℕ)) → HaveMatches standing triggers keys → AreMatches standing trigger tuples
       → HaveMatches standing (triggers ++ trigger ∷ []) (keys ++ map (λ tuple. trigger.forall ∷ tuple) tuples)
@@ -64,9 +61,6 @@ module _ (standing : List Done) where
   -- an instance that is not of terms has no key
   pub gains_no_key : IsLawful standing → (instance : Instance) (keys : List (List ℕ)) → (All (λ term. term < length (terms_of standing)) instance.tuple → ⊥) → GainsKeys (IsLeaderKey standing instance) keys keys
   gains_no_key lawful instance keys not_terms other = (inl, λ either. ⊎_elim (λ c. c) (λ its. absurd (not_terms (each_stand lawful.whole.ends its.same))) either)
-
-  pub done_none : AreDoneKeys standing [] []
-  done_none key = (nothing_in key, λ is. nothing_in is.0 is.1)
 
   -- with the keys of one instance more
   pub done_more : (done : List Instance) (instance : Instance) (old new : List (List ℕ)) → AreDoneKeys standing done old → GainsKeys (IsLeaderKey standing instance) old new → AreDoneKeys standing (done ++ instance ∷ []) new

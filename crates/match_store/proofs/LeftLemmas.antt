@@ -1,5 +1,5 @@
 -- Of the candidates those that are not done.
-use Rattle.std.proofs.Common.{◌≡◌, ◌+◌, ◌<◌, ⊎_elim, ℕ, List, [], ◌∷◌, ◌++◌, Contains, length, get_or, take, sym, subst, arith}
+use Rattle.std.proofs.Common.{◌≡◌, ◌+◌, ◌<◌, ⊎_elim, ℕ, List, [], ◌∷◌, ◌++◌, Contains, length, get_or, take, sym, subst}
 use Rattle.std.proofs.lemmas.Grind.{take_at_read}
 use Rattle.std.proofs.lemmas.List.Elements.{Contains-append_left, Contains-get_or, Contains-push, Contains-push_cases}
 use Rattle.std.proofs.lemmas.List.Quantifiers.{all_pairs_push}
@@ -8,12 +8,9 @@ use Rattle.std.specs.Ordering.{nat_cmp}
 use Rattle.std.specs.declared.cmp.Ordering.TheVariants.{Less}
 use Rattle.graph_meaning.specs.Match.{InOrder}
 use Rattle.match_store.specs.Candidates.{AreLeft}
-use Rattle.match_store.proofs.ListLemmas.{nothing_in, earlier_before}
+use Rattle.match_store.proofs.ListLemmas.{earlier_before}
 
 module _ (done : List (List ℕ)) where
-  pub left_none : AreLeft done [] []
-  left_none = record { in_order = λ i j d less within. absurd (omega (arith, within)); exact = λ key. (nothing_in key, λ both. nothing_in key both.0) }
-
   module _ (candidates : List (List ℕ)) (up : InOrder candidates) (i : ℕ) (within : i < length candidates) (key d : List ℕ) (is : key ≡ get_or candidates i d) (keys : List (List ℕ)) (left : AreLeft done (take i candidates) keys) where
     next : take (i + 1) candidates ≡ take i candidates ++ key ∷ []
     next = subst (λ (k : List ℕ). take (i + 1) candidates ≡ take i candidates ++ k ∷ []) (sym is) (take_at_read candidates i d within).1

@@ -17,8 +17,7 @@ use Rattle.formula_table.specs.Entry.BecomesRow.{variable, application}
 use Rattle.formula_table.specs.Instance.{HasVariables, EntersInstance}
 use Rattle.formula_value.specs.Holds.{HasNode}
 use Rattle.search_laws.specs.Pairs.{IsRowAt, IsInstanceOf}
-use Rattle.search_laws.proofs.Places.{contains_head, contains_at, stands_below}
-use Rattle.search_laws.proofs.GrownLemmas.{at_front}
+use Rattle.search_laws.proofs.Places.{at_front, contains_head, contains_at, stands_below}
 
 module _ {X : Type 0} where
   none_of_length : (xs : List X) → length xs ≡ 0 → xs ≡ []

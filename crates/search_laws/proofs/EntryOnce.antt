@@ -1,7 +1,6 @@
 -- Instances are entered in one way, or refused in one way; and what is sound stays so where they are entered.
-use Rattle.std.proofs.Common.{◌≡◌, ◌≢◌, ℕ, zero, suc, ◌<◌, ◌≤◌, List, [], ◌∷◌, ◌++◌, length, map, slice_get, Some}
+use Rattle.std.proofs.Common.{◌≡◌, ◌≢◌, ℕ, ◌<◌, ◌≤◌, List, [], ◌∷◌, ◌++◌, length, map, slice_get, Some}
 use Rattle.std.proofs.Common.{Contains, refl, sym, ap, subst, ◌∙◌, append-nil, append_assoc, arith}
-use Rattle.std.proofs.lemmas.Option.{none-some}
 use Rattle.std.proofs.lemmas.List.{length-append, map-append}
 use Rattle.std.proofs.lemmas.List.Elements.{All-weaker}
 use Rattle.graph_terms.specs.declared.term_row.TermRow.{TermRow}
@@ -30,7 +29,7 @@ use Rattle.formula_assert.specs.Tables.{AreTables}
 use Rattle.search_laws.specs.Path.{Path}
 use Rattle.search_laws.specs.Rounds.{graph_in, EntersOne, EntersAll, PassesLimit, Overflows}
 use Rattle.search_laws.specs.Rounds as entering
-use Rattle.search_laws.proofs.Places.{map_from, with_more, contains_head, contains_later}
+use Rattle.search_laws.proofs.Places.{at_front, map_from, with_more, contains_head, contains_later}
 use Rattle.search_laws.proofs.SoundLemmas.{OpFits, count_in, IsSound, IsSoundPath, IsOver, IsOverPath}
 use Rattle.search_laws.proofs.SoundLemmas.{sound_asserts, asserts_rows}
 
@@ -51,12 +50,6 @@ pub record InstanceLaws : Type 0 where
       HasVariables before.formulas forall (length tuple) → TermsStand before tuple → AreTables before →
       (fault ≢ Memory) → (also ≢ Memory) → StopsAssertInstance forall tuple before one fault →
       StopsAssertInstance forall tuple before other also → (fault ≡ also) × (one ≡ other)
-
--- what stands at a place does where more is put at the end
-at_front : {X : Type 0} (xs ys : List X) (k : ℕ) (x : X) → slice_get xs k ≡ Some x → slice_get (xs ++ ys) k ≡ Some x
-at_front [] ys k x e = absurd (none-some x e)
-at_front (y ∷ xs) ys zero x e = e
-at_front (y ∷ xs) ys (suc k) x e = at_front xs ys k x e
 
 -- terms that a graph gains are added last
 operations_gained : (graph : GraphState) (rows : List TermRow) →

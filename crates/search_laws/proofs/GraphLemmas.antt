@@ -1,16 +1,20 @@
 -- What operations that add no term, and open and end no level, make of a graph.
-use Rattle.std.proofs.Common.{◌≡◌, ℕ, true, false, List, [], ◌∷◌, ◌++◌, map, Some, Contains, refl, sym, ap, ap₂, subst}
+use Rattle.std.proofs.Common.{◌≡◌, ℕ, ◌<◌, true, false, List, [], ◌∷◌, ◌++◌, length, map, Some, Contains, refl, sym, ap, ap₂, subst}
 use Rattle.std.proofs.Common.{◌∙◌, ⊎_elim, append-nil, append_assoc}
 use Rattle.std.specs.List.{filter_map}
-use Rattle.std.proofs.lemmas.Option.{none-some, some_pair_parts}
+use Rattle.std.proofs.lemmas.Option.{none-some, same_Some, some_pair_parts, slice_get_within}
 use Rattle.std.proofs.lemmas.List.{map-append}
 use Rattle.std.proofs.lemmas.List.Elements.{filter_map-append}
-use Rattle.graph_terms.specs.Terms.{first_rows}
+use Rattle.graph_terms.specs.declared.term_row.TermRow.{TermRow}
+use Rattle.graph_terms.specs.Terms.{term_row, first_rows, IsTable}
 use Rattle.graph_trigger.specs.declared.trigger.Trigger.{Trigger}
 use Rattle.graph_meaning.specs.declared.done.Done.{Done}
 use Rattle.graph_meaning.specs.declared.op.Op.{Op}
 use Rattle.graph_meaning.specs.declared.op.Op.TheVariants.{Add, Merge, Differ, Live, Push, Pop}
-use Rattle.graph_meaning.specs.Standing.{terms_of, merges_of, differs_of, added_row, merged_ends, different_ends}
+use Rattle.graph_meaning.specs.Same.{Derives}
+use Rattle.graph_meaning.specs.Same as same
+use Rattle.graph_meaning.specs.Standing.{terms_of, merges_of, differs_of, triggers_of, added_row, merged_ends}
+use Rattle.graph_meaning.specs.Standing.{different_ends, live_trigger}
 use Rattle.graph_meaning.specs.State.{GraphState, replay, state_after}
 use Rattle.formula_table.specs.declared.node.Node.{Node}
 use Rattle.formula_table.specs.declared.node.Node.TheVariants.{Equal, Atom, And, Or, Forall}
@@ -148,3 +152,36 @@ module _ (standing : List Done) (s t : ℕ) where
   differ_read c = let h = map_from (λ (d : Done). d.op) standing (Differ s t) c in
       filter_map_keeps different_ends standing h.0 (s, t) h.1
       (ap (λ op. different_ends (record { serial = h.0.serial; op = op })) h.2)
+
+-- the operation that makes a trigger live
+live_of : (trigger : Trigger) (serial : ℕ) (op : Op) →
+    live_trigger (record { serial = serial; op = op }) ≡ Some trigger → op ≡ Live trigger
+live_of trigger serial (Add symbol args) e = absurd (none-some trigger e)
+live_of trigger serial (Merge s t) e = absurd (none-some trigger e)
+live_of trigger serial (Differ s t) e = absurd (none-some trigger e)
+live_of trigger serial (Live other) e = ap Live (same_Some other trigger e)
+live_of trigger serial Push e = absurd (none-some trigger e)
+live_of trigger serial Pop e = absurd (none-some trigger e)
+
+-- a live trigger stands
+pub live_stands : (standing : List Done) (trigger : Trigger) → Contains (triggers_of standing) trigger →
+    Contains (operations_in standing) (Live trigger)
+live_stands standing trigger c =
+    let from = filter_map_from live_trigger standing trigger c in
+    subst (Contains (operations_in standing)) (live_of trigger (from.0).serial (from.0).op from.2)
+    (map_keeps (λ (done : Done). done.op) standing from.0 from.1)
+
+-- where the equations are between terms that stand, each term that is derived equal to another stands
+pub both_stand : (rows : List TermRow) (merges : List (ℕ × ℕ)) → ((s t : ℕ) → Contains merges (s, t) →
+    (s < length rows) × (t < length rows)) → {s t : ℕ} → Derives rows merges s t → (s < length rows) × (t < length rows)
+both_stand rows merges stand (same.Derives.same_term less) = (less, less)
+both_stand rows merges stand (same.Derives.turned d) = let both = both_stand rows merges stand d in (both.1, both.0)
+both_stand rows merges stand (same.Derives.joined d e) =
+    ((both_stand rows merges stand d).0, (both_stand rows merges stand e).1)
+both_stand rows merges stand (same.Derives.merged {s} {t} c) = stand s t c
+both_stand rows merges stand (same.Derives.congruent {s} {t} {symbol} {ss} {ts} has also each) =
+    (slice_get_within rows s (term_row symbol ss) has, slice_get_within rows t (term_row symbol ts) also)
+
+-- true and false stand
+pub truths_stand : (rows : List TermRow) → IsTable rows → 1 < length rows
+truths_stand rows table = slice_get_within rows 1 (term_row 1 []) table.false_row

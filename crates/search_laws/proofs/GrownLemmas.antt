@@ -1,8 +1,7 @@
 -- What is true over a table is true over a longer one.
-use Rattle.std.proofs.Common.{◌≡◌, ℕ, zero, suc, ◌<◌, true, false, List, [], ◌∷◌, ◌++◌, length, map, slice_get}
-use Rattle.std.proofs.Common.{Some, All, refl, sym, ap, ◌∙◌, inl, inr, ⊎_elim, arith}
+use Rattle.std.proofs.Common.{◌≡◌, ℕ, zero, suc, ◌<◌, true, false, List, [], ◌∷◌, ◌++◌, length, map}
+use Rattle.std.proofs.Common.{All, refl, sym, ap, ◌∙◌, inl, inr, ⊎_elim, arith}
 use Rattle.std.specs.Option.{option_map_or}
-use Rattle.std.proofs.lemmas.Option.{none-some}
 use Rattle.std.proofs.lemmas.List.Elements.{All-contains}
 use Rattle.graph_terms.specs.declared.term_row.TermRow.{TermRow}
 use Rattle.graph_terms.specs.Terms.{IsTable}
@@ -15,18 +14,11 @@ use Rattle.formula_table.specs.Node.{terms_in}
 use Rattle.formula_value.specs.Holds as truth
 use Rattle.formula_value.specs.Holds.{HasNode, Holds, Everywhere}
 use Rattle.search_laws.specs.Assignment.{Assignment}
-use Rattle.search_laws.proofs.Places.{stands_below, map_agree, contains_head, contains_later}
+use Rattle.search_laws.proofs.Places.{at_front, stands_below, map_agree, contains_head, contains_later}
 use Rattle.search_laws.proofs.FormulaLemmas.{OfLeaves, leaf_of, holds_leaf, holds_and, holds_or}
 use Rattle.search_laws.proofs.Worlds.{World, IsTrueAt, IsHeldAt, IsTrueIn, IsNotTrueIn, IsTrueOp, true_of_leaves}
 use Rattle.search_laws.proofs.Worlds.{held_of_leaves}
 use Rattle.search_laws.proofs.Totals.{value, number_by, number_of, world_of}
-
--- an element keeps its place when more come
-pub at_front : {X : Type 0} (xs ys : List X) (k : ℕ) (x : X) → slice_get xs k ≡ Some x →
-    slice_get (xs ++ ys) k ≡ Some x
-at_front [] ys k x e = absurd (none-some x e)
-at_front (z ∷ xs) ys zero x e = e
-at_front (z ∷ xs) ys (suc k) x e = at_front xs ys k x e
 
 -- the row's number by those of its arguments
 abbrev by_args : Assignment → (ℕ → ℕ) → TermRow → ℕ

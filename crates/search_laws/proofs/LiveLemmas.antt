@@ -1,5 +1,5 @@
 -- A forall that is asserted stays so on the way of a search.
-use Rattle.std.proofs.Common.{◌≡◌, ◌≢◌, ℕ, zero, suc, List, [], ◌∷◌, ◌++◌, slice_get, Option, Some, None}
+use Rattle.std.proofs.Common.{◌≡◌, ◌≢◌, ℕ, List, [], ◌∷◌, ◌++◌, slice_get, Option, Some, None}
 use Rattle.std.proofs.Common.{Contains, refl, sym, ap, subst}
 use Rattle.std.specs.Option.{option_map_or}
 use Rattle.std.proofs.lemmas.Option.{none-some, same_Some}
@@ -18,7 +18,7 @@ use Rattle.search_laws.specs.Rounds.{EntersOne, EntersAll}
 use Rattle.search_laws.specs.Rounds as entering
 use Rattle.search_laws.specs.Verdict.{Ending, sat, Verdict}
 use Rattle.search_laws.specs.Verdict as verdict
-use Rattle.search_laws.proofs.Places.{contains_none, contains_head, filter_map_keeps, filter_map_from}
+use Rattle.search_laws.proofs.Places.{at_front, contains_none, contains_head, filter_map_keeps, filter_map_from}
 use Rattle.search_laws.proofs.CompleteLemmas.{asserts_grow}
 
 -- some asserted node is a forall
@@ -31,12 +31,6 @@ pub record IsLive (nodes : List Node) (asserted : List ℕ) : Type 0 where
 -- of the path
 abbrev pub IsLivePath : Path → Type 0
 IsLivePath path = IsLive path.formulas.nodes path.branch.held.asserted
-
--- what stands at a place does where more is put at the end
-get_more : {X : Type 0} (xs ys : List X) (k : ℕ) (x : X) → slice_get xs k ≡ Some x → slice_get (xs ++ ys) k ≡ Some x
-get_more [] ys k x e = absurd (none-some x e)
-get_more (y ∷ xs) ys zero x e = e
-get_more (y ∷ xs) ys (suc k) x e = get_more xs ys k x e
 
 -- a list that is not empty has a first element
 some_first : {X : Type 0} (xs : List X) → xs ≢ [] → (x : X) × Contains xs x
@@ -90,7 +84,7 @@ live_longer nodes added asserted live = record {
   n = live.n;
   forall = live.forall;
   is_asserted = live.is_asserted;
-  has = get_more nodes added live.n (Forall live.forall) live.has;
+  has = at_front nodes added live.n (Forall live.forall) live.has;
 }
 
 -- so it is where a node is asserted

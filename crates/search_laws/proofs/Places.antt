@@ -1,9 +1,10 @@
 -- Elements and their places.
 use Rattle.std.proofs.Common.{◌≡◌, ℕ, zero, suc, ◌<◌, ◌⊎◌, List, [], ◌∷◌, ◌++◌, length, map, slice_get, Option, Some}
-use Rattle.std.proofs.Common.{None, Contains, refl, sym, ap, ap₂, subst, ◌∙◌, inl, inr, ⊎_elim, arith}
+use Rattle.std.proofs.Common.{None, All, Contains, refl, sym, ap, ap₂, subst, ◌∙◌, inl, inr, ⊎_elim, arith}
 use Rattle.std.specs.List.{filter_map, cons_option}
 use Rattle.std.proofs.lemmas.Option.{none-some, same_Some}
-use Rattle.std.proofs.lemmas.List.Elements.{Contains-push_cases, Contains-append_cases, Contains-append_right}
+use Rattle.std.proofs.lemmas.List.Elements.{All-contains, Contains-push_cases, Contains-append_cases}
+use Rattle.std.proofs.lemmas.List.Elements.{Contains-append_right}
 
 module _ {X : Type 0} where
   -- nothing is an element of the empty list
@@ -23,6 +24,12 @@ module _ {X : Type 0} where
   contains_at [] k x e = absurd (none-some x e)
   contains_at (y ∷ xs) zero x e = subst (Contains (y ∷ xs)) (same_Some y x e) (contains_head y xs)
   contains_at (y ∷ xs) (suc k) x e = contains_later y x xs (contains_at xs k x e)
+
+  -- an element keeps its place when more come
+  pub at_front : (xs ys : List X) (k : ℕ) (x : X) → slice_get xs k ≡ Some x → slice_get (xs ++ ys) k ≡ Some x
+  at_front [] ys k x e = absurd (none-some x e)
+  at_front (y ∷ xs) ys zero x e = e
+  at_front (y ∷ xs) ys (suc k) x e = at_front xs ys k x e
 
   -- an element is the first or one of the others
   pub contains_cases : (y x : X) (xs : List X) → Contains (y ∷ xs) x → (y ≡ x) ⊎ Contains xs x
@@ -45,6 +52,13 @@ module _ {X : Type 0} where
   -- the one element of a list
   pub contains_one : (P : X → Type 0) (alone x : X) → P alone → Contains (alone ∷ []) x → P x
   contains_one P alone x here c = ⊎_elim (λ e. subst P e here) (contains_none x) (contains_cases alone x [] c)
+
+  -- what holds of all elements of a list of two
+  pub two_all : (P : X → Type 0) (x y : X) → All P (x ∷ y ∷ []) → P x × P y
+  two_all P x y all = (
+    All-contains P (x ∷ y ∷ []) x all (contains_head x (y ∷ [])),
+    All-contains P (x ∷ y ∷ []) y all (contains_later x y (y ∷ []) (contains_head y [])),
+  )
 
   -- a property of all elements stays with one more
   pub with_one : (P : X → Type 0) (xs : List X) (y : X) → ((x : X) → Contains xs x → P x) → P y → (x : X) →

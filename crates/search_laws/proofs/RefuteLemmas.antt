@@ -19,12 +19,13 @@ use Rattle.search_laws.specs.Assignment.{Assignment, IsAssignment}
 use Rattle.search_laws.specs.Pairs.{Pair, IsInstanceOf, Obeys, AreRefutedByInstances}
 use Rattle.search_laws.specs.Laws.{IsInOrder}
 use Rattle.search_laws.proofs.Places.{contains_none}
+use Rattle.search_laws.proofs.GraphLemmas.{truths_stand}
 use Rattle.search_laws.proofs.Worlds.{World, IsTrueIn, IsTrueOp, operations_true}
 use Rattle.search_laws.proofs.FitLemmas.{Fits, asserts_fits, no_conflict, part_held, held_fits, struck_fits}
 use Rattle.search_laws.proofs.FitLemmas.{part_or_not, closes_fits}
 use Rattle.search_laws.proofs.Totals.{world_of, is_world, true_in}
 use Rattle.search_laws.proofs.StandingLemmas.{exact_over, asserts_over, closes_over, struck_over}
-use Rattle.search_laws.proofs.RoundLemmas.{EntryKeeps, IsOnWay, IsFollowed, with_over, truths_stand, live_true}
+use Rattle.search_laws.proofs.RoundLemmas.{EntryKeeps, IsOnWay, IsFollowed, with_over, live_true}
 use Rattle.search_laws.proofs.RoundLemmas.{new_live, new_fits, all_followed}
 
 -- some instances refute the path: no world of an assignment that obeys these fits it

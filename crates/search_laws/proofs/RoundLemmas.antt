@@ -1,20 +1,18 @@
 -- A round of instances: each of them is a pair, and a world that fits before it and obeys these fits after it.
-use Rattle.std.proofs.Common.{◌≡◌, ℕ, ◌<◌, ◌≤◌, true, false, IsTrue, List, [], ◌∷◌, ◌++◌, length, map, slice_get, Some}
+use Rattle.std.proofs.Common.{◌≡◌, ℕ, ◌<◌, ◌≤◌, true, false, IsTrue, List, [], ◌∷◌, ◌++◌, length, map, slice_get}
 use Rattle.std.proofs.Common.{All, Contains, refl, sym, ap, subst, ◌∙◌, ⊎_elim, append-nil, append_assoc, arith}
 use Rattle.std.specs.Option.{option_map_or}
-use Rattle.std.proofs.lemmas.Option.{none-some, same_Some, slice_get_within}
 use Rattle.std.proofs.lemmas.List.{map-append, length-append}
 use Rattle.std.proofs.lemmas.List.Elements.{All-nil, All-cons, All-weaker}
 use Rattle.std.proofs.lemmas.List.Elements.{Contains-append_cases, filter_map-append}
 use Rattle.graph_terms.specs.declared.term_row.TermRow.{TermRow}
-use Rattle.graph_terms.specs.Terms.{term_row, first_rows, IsTable}
+use Rattle.graph_terms.specs.Terms.{first_rows, IsTable}
 use Rattle.graph_trigger.specs.declared.trigger.Trigger.{Trigger}
 use Rattle.graph_meaning.specs.declared.done.Done.{Done}
 use Rattle.graph_meaning.specs.declared.op.Op.{Op}
 use Rattle.graph_meaning.specs.declared.op.Op.TheVariants.{Add, Merge, Differ, Live, Push, Pop}
-use Rattle.graph_meaning.specs.Same.{Derives, IsClassLeader}
-use Rattle.graph_meaning.specs.Same as same
-use Rattle.graph_meaning.specs.Standing.{terms_of, merges_of, triggers_of, added_row, live_trigger}
+use Rattle.graph_meaning.specs.Same.{IsClassLeader}
+use Rattle.graph_meaning.specs.Standing.{terms_of, merges_of, added_row}
 use Rattle.graph_meaning.specs.State.{GraphState, state_after}
 use Rattle.match_graph.specs.GraphTerms.{adding, with_terms}
 use Rattle.match_store.specs.declared.instance.Instance.{Instance}
@@ -35,13 +33,13 @@ use Rattle.search_laws.specs.Rounds as rounds
 use Rattle.search_laws.specs.Assignment.{Assignment, IsAssignment}
 use Rattle.search_laws.specs.Pairs.{Pair, IsInstanceOf, Obeys}
 use Rattle.search_laws.proofs.Places.{contains_none, contains_one, contains_head, contains_later}
-use Rattle.search_laws.proofs.Places.{place_of, stands_below, map_keeps, map_from, filter_map_from}
-use Rattle.search_laws.proofs.Places.{with_more}
-use Rattle.search_laws.proofs.GraphLemmas.{merge_stands}
+use Rattle.search_laws.proofs.Places.{place_of, stands_below, map_from}
+use Rattle.search_laws.proofs.Places.{at_front, with_more}
+use Rattle.search_laws.proofs.GraphLemmas.{merge_stands, live_stands, both_stand, truths_stand}
 use Rattle.search_laws.proofs.FormulaLemmas.{holds_leaf}
 use Rattle.search_laws.proofs.Worlds.{World, IsWorld, IsTrueIn, IsNotTrueIn, IsTrueOp, true_of_leaves}
 use Rattle.search_laws.proofs.Totals.{world_of, is_world, true_in}
-use Rattle.search_laws.proofs.GrownLemmas.{AgreeBelow, EndsStand, at_front, worlds_agree, operation_moves, true_moves}
+use Rattle.search_laws.proofs.GrownLemmas.{AgreeBelow, EndsStand, worlds_agree, operation_moves, true_moves}
 use Rattle.search_laws.proofs.GrownLemmas.{not_true_moves}
 use Rattle.search_laws.proofs.StandingLemmas.{IsHeldOver, IsNotLive, asserts_over}
 use Rattle.search_laws.proofs.FitLemmas.{FitsHeld, IsRightlyStruck, Fits, asserts_fits}
@@ -175,9 +173,6 @@ with_over start formulas rows now next way over = record {
   over = over;
 }
 
-pub truths_stand : (rows : List TermRow) → IsTable rows → 1 < length rows
-truths_stand rows table = slice_get_within rows 1 (term_row 1 []) table.false_row
-
 -- the tuple has a term for each variable of the forall, and these are among the first so many
 pub record IsFitting (start : Formulas) (count : ℕ) (instance : Instance) : Type 0 where
   pub variables : HasVariables start instance.forall (length instance.tuple)
@@ -203,23 +198,6 @@ pub live_true : (formulas : Formulas) (world : World) (branch : Branch) (forall 
 live_true formulas world branch forall fits live = holds_leaf (true_of_leaves world) live.has
     (record { not_and = λ parts e. cc; not_or = λ parts e. cc }) (fits.held.asserted live.n live.asserted).holds
 
--- a live trigger stands
-live_op : (trigger : Trigger) (serial : ℕ) (op : Op) → live_trigger (record { serial = serial; op = op }) ≡ Some trigger
-    → op ≡ Live trigger
-live_op trigger serial (Add symbol args) e = absurd (none-some trigger e)
-live_op trigger serial (Merge left right) e = absurd (none-some trigger e)
-live_op trigger serial (Differ left right) e = absurd (none-some trigger e)
-live_op trigger serial (Live other) e = ap Live (same_Some other trigger e)
-live_op trigger serial Push e = absurd (none-some trigger e)
-live_op trigger serial Pop e = absurd (none-some trigger e)
-
-live_stands : (standing : List Done) (trigger : Trigger) → Contains (triggers_of standing) trigger →
-    Contains (operations_in standing) (Live trigger)
-live_stands standing trigger c =
-    let h = filter_map_from live_trigger standing trigger c in
-    subst (Contains (operations_in standing)) (live_op trigger (h.0).serial (h.0).op h.2)
-    (map_keeps (λ (d : Done). d.op) standing h.0 h.1)
-
 -- the node that makes a trigger live is its forall
 live_node : (formulas : Formulas) (node : Node) (trigger : Trigger) →
     Contains (operations_of formulas node) (Live trigger) →
@@ -237,24 +215,12 @@ live_node formulas (Forall forall) trigger c =
     same_lives : (one other : Trigger) → Live one ≡ Live other → one ≡ other
     same_lives one other e = cc
 
--- terms that are derived equal stand
-derived_stand : (rows : List TermRow) (merges : List (ℕ × ℕ)) →
-    ((s t : ℕ) → Contains merges (s, t) → (s < length rows) × (t < length rows)) → {s t : ℕ} →
-    Derives rows merges s t → (s < length rows) × (t < length rows)
-derived_stand rows merges ends (same.same_term less) = (less, less)
-derived_stand rows merges ends (same.turned d) = let h = derived_stand rows merges ends d in (h.1, h.0)
-derived_stand rows merges ends (same.joined d e) =
-    ((derived_stand rows merges ends d).0, (derived_stand rows merges ends e).1)
-derived_stand rows merges ends (same.merged {s} {t} c) = ends s t c
-derived_stand rows merges ends (same.congruent {s} {t} {symbol} {ss} {ts} left right each) =
-    (slice_get_within rows s (term_row symbol ss) left, slice_get_within rows t (term_row symbol ts) right)
-
 module _ (start formulas : Formulas) (rows : List TermRow) (now : Held) (way : IsOnWay start formulas rows now) where
   -- leaders stand
   leader_stands : (term : ℕ) →
       IsClassLeader (terms_of now.graph.standing) (merges_of now.graph.standing) term term → term < length rows
   leader_stands term leads =
-      let stands = derived_stand (terms_of now.graph.standing) (merges_of now.graph.standing)
+      let stands = both_stand (terms_of now.graph.standing) (merges_of now.graph.standing)
       (λ s t c. subst (λ list. (s < length list) × (t < length list)) (sym way.over.rows_are)
       (way.over.ends (Merge s t) (merge_stands now.graph.standing s t c))) leads.same in
       subst (λ list. term < length list) way.over.rows_are stands.0

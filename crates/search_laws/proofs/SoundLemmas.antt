@@ -3,17 +3,14 @@
 use Rattle.std.proofs.Common.{◌≡◌, ℕ, ◌<◌, true, false, List, [], ◌∷◌, length, slice_get, Some, All}
 use Rattle.std.proofs.Common.{Contains, refl, sym, ap, subst, ◌∙◌, arith}
 use Rattle.std.specs.Option.{option_map_or}
-use Rattle.std.proofs.lemmas.Option.{none-some, same_Some, slice_get_within}
 use Rattle.std.proofs.lemmas.List.Elements.{All-weaker, All-contains}
 use Rattle.graph_terms.specs.declared.term_row.TermRow.{TermRow}
-use Rattle.graph_terms.specs.Terms.{term_row, IsTable}
+use Rattle.graph_terms.specs.Terms.{IsTable}
 use Rattle.graph_trigger.specs.declared.trigger.Trigger.{Trigger}
-use Rattle.graph_meaning.specs.declared.done.Done.{Done}
 use Rattle.graph_meaning.specs.declared.op.Op.{Op}
 use Rattle.graph_meaning.specs.declared.op.Op.TheVariants.{Add, Merge, Differ, Live, Push, Pop}
-use Rattle.graph_meaning.specs.Same.{Derives, IsClassLeader}
-use Rattle.graph_meaning.specs.Same as same
-use Rattle.graph_meaning.specs.Standing.{terms_of, merges_of, triggers_of, live_trigger}
+use Rattle.graph_meaning.specs.Same.{IsClassLeader}
+use Rattle.graph_meaning.specs.Standing.{terms_of, merges_of}
 use Rattle.graph_meaning.specs.State.{GraphState, replay}
 use Rattle.match_store.specs.declared.instance.Instance.{Instance}
 use Rattle.match_store.specs.New.{IsNew}
@@ -32,9 +29,10 @@ use Rattle.search_laws.specs.Closing as closing
 use Rattle.search_laws.specs.Path.{Path}
 use Rattle.search_laws.specs.Rounds.{graph_in}
 use Rattle.search_laws.specs.Laws.{IsInOrder}
-use Rattle.search_laws.proofs.Places.{contains_none, contains_one, contains_head, contains_later, with_more}
-use Rattle.search_laws.proofs.Places.{place_of, stands_below, map_keeps, map_from, filter_map_from}
-use Rattle.search_laws.proofs.GraphLemmas.{Does, does, plain_of, plain_refuting, merge_stands}
+use Rattle.search_laws.proofs.Places.{two_all, contains_none, contains_one, contains_head, with_more}
+use Rattle.search_laws.proofs.Places.{place_of, stands_below, map_from}
+use Rattle.search_laws.proofs.GraphLemmas.{Does, does, plain_of, plain_refuting, merge_stands, live_stands}
+use Rattle.search_laws.proofs.GraphLemmas.{both_stand, truths_stand}
 
 -- the ends of an equation are among the first so many terms, and a live trigger is of a forall with its variables
 abbrev pub OpFits : Formulas → ℕ → Op → Type 0
@@ -60,10 +58,6 @@ pub record IsSound (formulas : Formulas) (graph : GraphState) : Type 0 where
 abbrev pub IsSoundPath : Path → Type 0
 IsSoundPath path = IsSound path.formulas (graph_in path)
 
--- true and false stand
-truths_stand : (rows : List TermRow) → IsTable rows → 1 < length rows
-truths_stand rows table = slice_get_within rows 1 (term_row 1 []) table.false_row
-
 module _ (formulas : Formulas) (count : ℕ) (table : IsFormulaTable formulas) (stand : NodesStand count formulas.nodes)
     (truths : 1 < count) where
   -- a trigger of a forall has its variables
@@ -81,12 +75,6 @@ module _ (formulas : Formulas) (count : ℕ) (table : IsFormulaTable formulas) (
         sym is.variables_are,
       )
 
-  two_stand : (s t : ℕ) → All (λ term. term < count) (s ∷ t ∷ []) → (s < count) × (t < count)
-  two_stand s t all = (
-    All-contains (λ term. term < count) (s ∷ t ∷ []) s all (contains_head s (t ∷ [])),
-    All-contains (λ term. term < count) (s ∷ t ∷ []) t all (contains_later s t (t ∷ []) (contains_head t [])),
-  )
-
   one_stands : (term : ℕ) → All (λ term. term < count) (term ∷ []) → term < count
   one_stands term all = All-contains (λ term. term < count) (term ∷ []) term all (contains_head term [])
 
@@ -94,7 +82,7 @@ module _ (formulas : Formulas) (count : ℕ) (table : IsFormulaTable formulas) (
   pub of_node : (n : ℕ) (node : Node) → HasNode formulas.nodes n node → (op : Op) →
       Contains (operations_of formulas node) op → OpFits formulas count op
   of_node n (Equal true s t) has op c =
-      contains_one (OpFits formulas count) (Merge s t) op (two_stand s t (stand n (Equal true s t) has)) c
+      contains_one (OpFits formulas count) (Merge s t) op (two_all (λ term. term < count) s t (stand n (Equal true s t) has)) c
   of_node n (Equal false s t) has op c = contains_one (OpFits formulas count) (Differ s t) op tt c
   of_node n (Atom true term) has op c =
       contains_one (OpFits formulas count) (Merge term 0) op
@@ -113,7 +101,7 @@ module _ (formulas : Formulas) (count : ℕ) (table : IsFormulaTable formulas) (
       Contains (refuting_of node) op → OpFits formulas count op
   of_refuted n (Equal true s t) has op c = contains_one (OpFits formulas count) (Differ s t) op tt c
   of_refuted n (Equal false s t) has op c =
-      contains_one (OpFits formulas count) (Merge s t) op (two_stand s t (stand n (Equal false s t) has)) c
+      contains_one (OpFits formulas count) (Merge s t) op (two_all (λ term. term < count) s t (stand n (Equal false s t) has)) c
   of_refuted n (Atom true term) has op c =
       contains_one (OpFits formulas count) (Merge term 1) op (one_stands term (stand n (Atom true term) has), truths) c
   of_refuted n (Atom false term) has op c =
@@ -208,34 +196,6 @@ module _ (formulas : Formulas) where
   sound_closes (closing.Closes.closed none rest) sound = sound
   sound_closes (closing.Closes.step none first asserts others) sound =
       sound_closes others (sound_asserts asserts sound)
-
--- where the equations are between terms that stand, each term that is derived equal to another stands
-both_stand : (rows : List TermRow) (merges : List (ℕ × ℕ)) → ((s t : ℕ) → Contains merges (s, t) →
-    (s < length rows) × (t < length rows)) → {s t : ℕ} → Derives rows merges s t → (s < length rows) × (t < length rows)
-both_stand rows merges stand (same.Derives.same_term less) = (less, less)
-both_stand rows merges stand (same.Derives.turned d) = let both = both_stand rows merges stand d in (both.1, both.0)
-both_stand rows merges stand (same.Derives.joined d e) =
-    ((both_stand rows merges stand d).0, (both_stand rows merges stand e).1)
-both_stand rows merges stand (same.Derives.merged {s} {t} c) = stand s t c
-both_stand rows merges stand (same.Derives.congruent {s} {t} {symbol} {ss} {ts} has also each) =
-    (slice_get_within rows s (term_row symbol ss) has, slice_get_within rows t (term_row symbol ts) also)
-
--- the operation that makes a trigger live
-live_of : (trigger : Trigger) (serial : ℕ) (op : Op) →
-    live_trigger (record { serial = serial; op = op }) ≡ Some trigger → op ≡ Live trigger
-live_of trigger serial (Add symbol args) e = absurd (none-some trigger e)
-live_of trigger serial (Merge s t) e = absurd (none-some trigger e)
-live_of trigger serial (Differ s t) e = absurd (none-some trigger e)
-live_of trigger serial (Live other) e = ap Live (same_Some other trigger e)
-live_of trigger serial Push e = absurd (none-some trigger e)
-live_of trigger serial Pop e = absurd (none-some trigger e)
-
-live_stands : (standing : List Done) (trigger : Trigger) → Contains (triggers_of standing) trigger →
-    Contains (operations_in standing) (Live trigger)
-live_stands standing trigger c =
-    let from = filter_map_from live_trigger standing trigger c in
-    subst (Contains (operations_in standing)) (live_of trigger (from.0).serial (from.0).op from.2)
-    (map_keeps (λ (done : Done). done.op) standing from.0 from.1)
 
 -- the forall of the instance has a variable for each term of its tuple, and these terms stand
 pub record IsOver (formulas : Formulas) (count : ℕ) (instance : Instance) : Type 0 where

@@ -20,7 +20,7 @@ use Rattle.formula_assert.specs.Exactly.{HoldsExactly, IsOfAsserted, operations_
 use Rattle.search_laws.specs.Branch.{Branch, with_struck}
 use Rattle.search_laws.specs.Closing.{Closes}
 use Rattle.search_laws.specs.Closing as closing
-use Rattle.search_laws.proofs.Places.{contains_none, contains_one, contains_head, contains_later, with_more}
+use Rattle.search_laws.proofs.Places.{two_all, contains_none, contains_one, contains_head, with_more}
 use Rattle.search_laws.proofs.GraphLemmas.{Does, does, plain_of, plain_refuting, live_only}
 use Rattle.search_laws.proofs.GrownLemmas.{EndsStand}
 
@@ -33,12 +33,6 @@ pub record IsHeldOver (formulas : Formulas) (rows : List TermRow) (now : Held) :
       IsOfAsserted formulas now (Live trigger)
 
 module _ (count : ℕ) (truths : 1 < count) where
-  two_stand : (s t : ℕ) → All (λ term. term < count) (s ∷ t ∷ []) → (s < count) × (t < count)
-  two_stand s t all = (
-    All-contains (λ term. term < count) (s ∷ t ∷ []) s all (contains_head s (t ∷ [])),
-    All-contains (λ term. term < count) (s ∷ t ∷ []) t all (contains_later s t (t ∷ []) (contains_head t [])),
-  )
-
   one_stands : (term truth : ℕ) → All (λ term. term < count) (term ∷ []) → truth < count →
       (term < count) × (truth < count)
   one_stands term truth all less = (
@@ -50,9 +44,9 @@ module _ (count : ℕ) (truths : 1 < count) where
   pub operations_stand : (formulas : Formulas) (node : Node) → All (λ term. term < count) (terms_in node) →
       (op : Op) → Contains (operations_of formulas node) op → EndsStand count op
   operations_stand formulas (Equal true s t) all op c =
-      contains_one (EndsStand count) (Merge s t) op (two_stand s t all) c
+      contains_one (EndsStand count) (Merge s t) op (two_all (λ term. term < count) s t all) c
   operations_stand formulas (Equal false s t) all op c =
-      contains_one (EndsStand count) (Differ s t) op (two_stand s t all) c
+      contains_one (EndsStand count) (Differ s t) op (two_all (λ term. term < count) s t all) c
   operations_stand formulas (Atom true term) all op c =
       contains_one (EndsStand count) (Merge term 0) op (one_stands term 0 all (omega arith)) c
   operations_stand formulas (Atom false term) all op c =
@@ -66,9 +60,9 @@ module _ (count : ℕ) (truths : 1 < count) where
   pub refuting_stand : (node : Node) → All (λ term. term < count) (terms_in node) → (op : Op) →
       Contains (refuting_of node) op → EndsStand count op
   refuting_stand (Equal true s t) all op c =
-      contains_one (EndsStand count) (Differ s t) op (two_stand s t all) c
+      contains_one (EndsStand count) (Differ s t) op (two_all (λ term. term < count) s t all) c
   refuting_stand (Equal false s t) all op c =
-      contains_one (EndsStand count) (Merge s t) op (two_stand s t all) c
+      contains_one (EndsStand count) (Merge s t) op (two_all (λ term. term < count) s t all) c
   refuting_stand (Atom true term) all op c =
       contains_one (EndsStand count) (Merge term 1) op (one_stands term 1 all truths) c
   refuting_stand (Atom false term) all op c =

@@ -1,0 +1,106 @@
+"""A run of `ematch solve` beside, which is given commands and asked for verdicts."""
+
+import os
+import select
+import subprocess
+import time
+
+from script_text import read_command
+
+
+class SolverProcess:
+    """What stands is kept here, level by level, so that a run that ended by an error or was cut off can be begun anew.
+
+    `program` is the path of `ematch`, `rounds` the number of rounds of instances that a check may enter on a way. `reason`
+    says why the last verdict was `unknown`: `incomplete`, `rounds`, `timeout`, or the line of an error."""
+
+    def __init__(self, program, rounds):
+        self.words = [program, "--rounds", str(rounds), "solve"]
+        self.kept = [[]]
+        self.child = None
+        self.unread = b""
+        self.reason = "incomplete"
+
+    def do(self, commands):
+        """Hands commands on that are not answered, and keeps what stands."""
+        for text in commands:
+            self._keep(text)
+        if self.child is not None:
+            self._write(commands)
+
+    def check(self, seconds):
+        """`sat`, `unsat` or `unknown`, within so many seconds (None is for ever). Where no answer comes, it is `unknown`
+        and the run is ended."""
+        self.reason = "incomplete"
+        deadline = None if seconds is None else time.monotonic() + seconds
+        if self.child is None:
+            self._start()
+        if self._write(["(check-sat)"]):
+            verdict = self._line(deadline)
+            if verdict in ("sat", "unsat"):
+                return verdict
+            if verdict == "unknown" and self._has_told_why():
+                return verdict
+            self.reason = verdict if verdict is not None else self.reason
+        self.end()
+        return "unknown"
+
+    def _has_told_why(self):
+        """Asks why the verdict was `unknown`; whether the answer came."""
+        answer = self._line(None) if self._write(["(get-info :reason-unknown)"]) else None
+        if answer is not None:
+            self.reason = "rounds" if "rounds" in answer else "incomplete"
+        return answer is not None
+
+    def end(self):
+        """Ends the run, if there is one."""
+        if self.child is not None:
+            self.child.kill()
+            self.child.stdin.close()
+            self.child.stdout.close()
+            self.child.wait()
+            self.child = None
+
+    def _keep(self, text):
+        head = read_command(text)
+        word, count = head[0].text, int(head[1].text) if len(head) > 1 and head[0].text in ("push", "pop") else 1
+        if word == "push":
+            self.kept.extend([] for _ in range(count))
+        elif word == "pop":
+            del self.kept[max(1, len(self.kept) - count):]
+        elif word in ("reset", "reset-assertions"):
+            self.kept = [[]]
+        else:
+            self.kept[-1].append(text)
+
+    def _start(self):
+        self.child = subprocess.Popen(self.words, stdin=subprocess.PIPE, stdout=subprocess.PIPE, bufsize=0)
+        self.unread = b""
+        for depth, commands in enumerate(self.kept):
+            self._write((["(push 1)"] if depth > 0 else []) + commands)
+
+    def _write(self, commands):
+        """Whether the run took all of it."""
+        rest = "".join(text + "\n" for text in commands).encode("latin-1")
+        try:
+            while rest:
+                rest = rest[self.child.stdin.write(rest):]
+        except BrokenPipeError:
+            self.reason = self._line(time.monotonic() + 1) or "the run ended"
+            return False
+        return True
+
+    def _line(self, deadline):
+        """The next line of the run; None where it ended without one, or the time is over, which becomes the reason."""
+        while b"\n" not in self.unread:
+            left = None if deadline is None else max(0.0, deadline - time.monotonic())
+            if not select.select([self.child.stdout], [], [], left)[0]:
+                self.reason = "timeout"
+                return None
+            piece = os.read(self.child.stdout.fileno(), 1 << 16)
+            if not piece:
+                self.reason = "the run ended"
+                return None
+            self.unread += piece
+        line, self.unread = self.unread.split(b"\n", 1)
+        return line.decode("latin-1")

@@ -1,0 +1,16 @@
+; All of this is in the language already.
+(set-logic UF)
+(declare-sort U 0)
+(declare-fun f (U) U)
+(declare-fun p (U) Bool)
+(declare-const a U)
+(define-fun twice ((x U)) U (f (f x)))
+(assert (forall ((x U)) (! (=> (p x)
+  (= (twice x) x)) ; written as it likes
+  :pattern ((p x)))))
+(assert (or (p a) (= (f a) a)))
+(check-sat)
+(push)
+(assert (let ((b (twice a))) (not (= b a))))
+(check-sat)
+(pop)

@@ -1,0 +1,13 @@
+; Each of two has another one: a witness for each.
+(declare-sort U 0)
+(declare-fun p (U) Bool)
+(declare-const a U)
+(declare-const b U)
+(assert (forall ((x U)) (! (exists ((y U)) (and (p y) (not (= x y)))) :pattern ((p x)))))
+(assert (forall ((x U)) (! (or (= x a) (= x b)) :pattern ((p x)))))
+(assert (= (p a) (p b) true))
+(check-sat)
+(assert (not (forall ((x U) (s Bool)) (! (exists ((y U)) (=> (p x) (= s (= x y)))) :pattern ((p x) (= s s))))))
+(check-sat)
+(assert (exists ((x U)) (not (or (= x a) (= x b) (not (p x))))))
+(check-sat)

@@ -1,0 +1,21 @@
+//! Numbers that look random.
+ghost use Rattle.std.specs.Prelude.{◌≢◌};
+
+/// Numbers that look random, from a seed.
+#[derive(Drop)]
+pub(crate) struct Random {
+    pub(crate) state: u64,
+}
+
+impl Random {
+    /// The next number below a bound, which is above 0.
+    pub(crate) fn below(&mut self, bound: u64) -> u64
+        requires { bound ≢ 0 }
+    {
+        self.state = self
+            .state
+            .wrapping_mul(6_364_136_223_846_793_005)
+            .wrapping_add(1_442_695_040_888_963_407);
+        (self.state >> 33) % bound
+    }
+}
