@@ -1,11 +1,11 @@
 -- Values of a branch that grow with the terms and the formulas.
-use Rattle.std.proofs.Common.{zero, suc, ◌≡◌, ◌⊎◌, inl, inr, ◌↔◌, ℕ, ◌<◌, ◌≤◌, Bool, true, false, IsTrue, List, [], ◌∷◌}
+use Rattle.std.proofs.Common.{zero, suc, ◌≡◌, inl, inr, ◌↔◌, ℕ, ◌<◌, ◌≤◌, true, false, IsTrue, List, [], ◌∷◌}
 use Rattle.std.proofs.Common.{◌++◌, length, map, take, drop, slice_get, Some, All, Contains, refl, sym, ap, subst, ◌∙◌}
 use Rattle.std.proofs.Common.{append_assoc, arith}
 use Rattle.std.proofs.lemmas.Bool.{cases_lt}
 use Rattle.std.proofs.lemmas.Option.{slice_get_within}
 use Rattle.std.specs.List.{filter_map}
-use Rattle.std.proofs.lemmas.List.{length-map, map-append, length-append}
+use Rattle.std.proofs.lemmas.List.{map-append, length-append}
 use Rattle.std.proofs.lemmas.List.Elements.{All-head, All-tail, All-contains, Contains-append_left, filter_map-append}
 use Rattle.graph_terms.specs.declared.term_row.TermRow.{TermRow}
 use Rattle.graph_terms.specs.Terms.{term_row, first_rows, HasRow}
@@ -17,7 +17,7 @@ use Rattle.graph_meaning.specs.State.{GraphState}
 use Rattle.match_graph.specs.GraphTerms.{with_terms}
 use Rattle.formula_table.specs.declared.node.Node.{Node}
 use Rattle.formula_table.specs.declared.node.Node.TheVariants.{Equal, Atom, And, Or, Forall}
-use Rattle.formula_table.specs.Formulas.{Formulas, IsFormulaTable}
+use Rattle.formula_table.specs.Formulas.{IsFormulaTable}
 use Rattle.formula_table.specs.Node.{terms_in}
 use Rattle.formula_truth.specs.declared.truth.Truth.{Truth}
 use Rattle.formula_truth.specs.declared.truth.Truth.TheVariants.{Yes, No, Unset}
@@ -46,7 +46,7 @@ use Rattle.search_branch.proofs.ComeLemmas.{front_of}
 -- ---- values of literals where only terms came
 
 module _ (before now : List Done) (came : OnlyTermsCame before now) (keeps : TermsKeepClasses) where
-  Old : ℕ → Type 0
+  abbrev Old : ℕ → Type 0
   Old term = term < length (terms_of before)
 
   still : (s t : ℕ) → Old s → Old t → Same before s t → Same now s t
@@ -215,7 +215,7 @@ module _ (was now : Assertions) (first : ℕ) (grown : HasGrown was now first) w
         listed_first : (n : ℕ) → Contains now.asserted n → n < first
         listed_first n listed =
             let among = subst (λ (list : List ℕ). Contains list n) grown.asserted_are listed in
-            let below = All-contains (λ (m : ℕ). m < length was.formulas.nodes) was.asserted stand.asserted n among in
+            let below = All-contains (λ (m : ℕ). m < length was.formulas.nodes) was.asserted n stand.asserted among in
             let many = grown.many in
             omega (arith, below, many)
 
@@ -240,7 +240,7 @@ module _ (was now : Assertions) (first : ℕ) (grown : HasGrown was now first) w
 
         struck_place : (n place : ℕ) → Contains struck (n, place) → n < first
         struck_place n place listed =
-            let is = All-contains (IsPlaceOf was.formulas.nodes) struck stand.places (n, place) listed in
+            let is = All-contains (IsPlaceOf was.formulas.nodes) struck (n, place) stand.places listed in
             let within = slice_get_within was.formulas.nodes n (Or is.parts) is.is_or in
             let many = grown.many in
             omega (arith, within, many)
@@ -302,11 +302,11 @@ module _ (was now : Assertions) (first : ℕ) (grown : HasGrown was now first) w
 
 -- the level is the innermost one still where nodes came
 pub level_grows : (nodes : List Node) (first : ℕ) (before old new : BranchValues) (mid : Given) →
-    first ≤ length nodes → (given_of old.values).parts ≡ map parts_in (take first nodes) →
+    (given_of old.values).parts ≡ map parts_in (take first nodes) →
     ComesBehind nodes first (given_of old.values) mid → KeepsNodes nodes mid (given_of new.values) →
     IsLevelOver before old → new.values.saved ≡ old.values.saved → new.marks.items ≡ old.marks.items →
     CanGoBack before.watch new.watch → IsLevelOver before new
-level_grows nodes first before old new mid within parts behind keeps over saved marks back = record {
+level_grows nodes first before old new mid parts behind keeps over saved marks back = record {
   each = over.each;
   more = over.more ++ map parts_in (drop first nodes);
   parts = keeps.parts ∙ behind.parts ∙ ap (map parts_in) (sym (take_drop first nodes))

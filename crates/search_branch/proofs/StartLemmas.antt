@@ -97,7 +97,7 @@ next_behind nodes first i node kind parts start old new from has same_kind same_
 -- ---- the watch
 
 -- the watch serves with any greater bound
-serves_up_to : (standing : List Done) (ends : List (ℕ × ℕ)) (bound more : ℕ) (watch : Watch) → bound ≤ more →
+pub serves_up_to : (standing : List Done) (ends : List (ℕ × ℕ)) (bound more : ℕ) (watch : Watch) → bound ≤ more →
     Serves (service standing ends bound) watch → Serves (service standing ends more) watch
 serves_up_to standing ends bound more watch below serves = record {
   watched = serves.watched;

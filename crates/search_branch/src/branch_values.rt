@@ -89,6 +89,7 @@ impl BranchValues {
         ensures over { OnOk result (IsLevelOver self.old self.new) }
         ensures values { OnOk result ((now : Assertions) (struck : List (ℕ × ℕ)) → AreValuesOf now struck self.old → AreValuesOf now struck self.new) }
     {
+        can_go_back_further();
         let _nodes = self.values.len();
         let mark = self.watch.mark();
         self.marks.reserve(1)?;

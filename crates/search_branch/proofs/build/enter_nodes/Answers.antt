@@ -1,6 +1,6 @@
-use Rattle.std.proofs.Common.{arith}
+use Rattle.std.proofs.Common.{refl, ◌∙◌, arith}
 use Rattle.search_values.specs.Kept.{given_of}
-use Rattle.search_branch.proofs.StartLemmas.{so_many, parts_stand, none_behind, next_behind, all_behind}
+use Rattle.search_branch.proofs.StartLemmas.{so_many, parts_stand, none_behind, next_behind}
 use Rattle.search_branch.proofs.build.enter_nodes.Goals as goal
 
 pub loop-n-init : goal.loop-n-init
@@ -17,7 +17,7 @@ enter-requires-clause-earlier c =
     let values = c.loop-n.values in
     let within = c.loop-n-test.true in
     let count = c.len-n-end.ensures.value in
-    parts_stand table c.loop-n.n c.node-node.result.now c.in_ok-parts.parts values.shown.kinds c.len.ensures.table
+    parts_stand table c.loop-n.n c.node-node.result.now c.in_ok-parts.parts values.shown.kinds c.len-n-end.ensures.table
     c.node-node.ensures c.in_ok-parts.ensures
     (so_many table.nodes c.args.first c.loop-n.n (given_of c.args.values.now) (given_of values)
     (omega (arith, within, count)) c.loop-n.invariant.behind)
