@@ -64,24 +64,24 @@ module _ (both : (first second third : Assertions) → KeepsLevels first second 
       ComesTo here next → AreHalves start halves asides here → AreHalves start halves asides next
   halves_more start [] asides here next comes are = (are.0, both start here.now next.now are.1 comes.keeps)
   halves_more start (half ∷ halves) asides here next comes are = (
-        are.0,
-        are.1,
-        record {
-          is_half = are.2.is_half;
-          mark = are.2.mark;
-          keeps = both half.before here.now next.now are.2.keeps comes.keeps;
-          so_many_struck = are.2.so_many_struck;
-          so_many_done = are.2.so_many_done;
-          so_many_spent = are.2.so_many_spent;
-          struck_later = are.2.struck_later ++ comes.struck;
-          struck_are = front_more half.struck are.2.struck_later comes.struck here.struck next.struck
-              are.2.struck_are comes.struck_are;
-          done_later = are.2.done_later ++ comes.done;
-          done_are = front_more half.done are.2.done_later comes.done here.done next.done are.2.done_are comes.done_are;
-          spent_later = are.2.spent_later ++ comes.spent;
-          spent_are = front_more half.spent are.2.spent_later comes.spent here.spent next.spent are.2.spent_are
-              comes.spent_are;
-          level = comes.levels half.values are.2.level;
-        },
-        are.3,
-      )
+    are.0,
+    are.1,
+    record {
+      is_half = are.2.is_half;
+      mark = are.2.mark;
+      keeps = both half.before here.now next.now are.2.keeps comes.keeps;
+      so_many_struck = are.2.so_many_struck;
+      so_many_done = are.2.so_many_done;
+      so_many_spent = are.2.so_many_spent;
+      struck_later = are.2.struck_later ++ comes.struck;
+      struck_are = front_more half.struck are.2.struck_later comes.struck here.struck next.struck
+          are.2.struck_are comes.struck_are;
+      done_later = are.2.done_later ++ comes.done;
+      done_are = front_more half.done are.2.done_later comes.done here.done next.done are.2.done_are comes.done_are;
+      spent_later = are.2.spent_later ++ comes.spent;
+      spent_are = front_more half.spent are.2.spent_later comes.spent here.spent next.spent are.2.spent_are
+          comes.spent_are;
+      level = comes.levels half.values are.2.level;
+    },
+    are.3,
+  )

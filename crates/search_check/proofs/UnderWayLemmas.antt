@@ -148,7 +148,7 @@ module _ (over_law : (before after : Assertions) → HoldsMoreOver before after 
                 calm = calm_here now struck values under_way.right step.0;
                 places = under_way.places;
                 lives = under_way.lives;
-                        };
+              };
               mark = mark;
               keeps = over_law now next over;
               so_many_struck = so_many_struck;
@@ -173,7 +173,7 @@ module _ (over_law : (before after : Assertions) → HoldsMoreOver before after 
           right = right;
           places = places_next;
           lives = lives;
-              not_past = under_way.not_past;
+          not_past = under_way.not_past;
         }
 
 module _ (rounds : ℕ) (start now : Assertions) (asides : List Aside) (struck : List (ℕ × ℕ)) (done : List Instance)

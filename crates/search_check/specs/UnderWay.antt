@@ -136,21 +136,21 @@ IsSearching rounds start now search =
 -- others
 pub record IsAgainAt (rounds : ℕ) (start : Assertions) (asides : List Aside) (here : Place) (aside : Aside) : Type 0
   where
-  pub node : Node
-  pub is_half : IsHalf (record {
-    before = here.now;
-    struck = here.struck;
-    done = here.done;
-    spent = here.spent;
-    values = here.values;
-    aside = aside;
-    node = node;
-  })
-  pub halves : List Half
-  pub are : AreHalves start halves asides here
-  pub way : IsOnTheWay rounds (first_path start.formulas (held_of start)) halves
-      (with_branch (path_in here) (with_struck (branch_of here.now here.struck) aside.node aside.place node))
-  pub not_past : length here.spent ≤ rounds
+    pub node : Node
+    pub is_half : IsHalf (record {
+      before = here.now;
+      struck = here.struck;
+      done = here.done;
+      spent = here.spent;
+      values = here.values;
+      aside = aside;
+      node = node;
+    })
+    pub halves : List Half
+    pub are : AreHalves start halves asides here
+    pub way : IsOnTheWay rounds (first_path start.formulas (held_of start)) halves
+        (with_branch (path_in here) (with_struck (branch_of here.now here.struck) aside.node aside.place node))
+    pub not_past : length here.spent ≤ rounds
 
 -- so it did by what the search keeps, where the places that were struck since then are left out
 abbrev pub IsBackAt : ℕ → Assertions → Assertions → Search → Aside → Type 0
