@@ -1,5 +1,5 @@
 -- That an operation gives each claim that it justifies, and no other.
-use Rattle.std.proofs.Common.{◌≡◌, inl, take, ℕ, suc, ◌+◌, ◌<◌, ◌≤◌, List, ◌∷◌, length, Some, slice_get, Contains, sym, subst, ⊎_elim, arith}
+use Rattle.std.proofs.Common.{◌≡◌, inl, ℕ, suc, ◌+◌, ◌<◌, ◌≤◌, List, ◌∷◌, length, Some, slice_get, Contains, sym, subst, ⊎_elim, arith}
 use Rattle.std.proofs.lemmas.Bool.{cases_lt}
 use Rattle.std.proofs.lemmas.Option.{slice_get_within}
 use Rattle.graph_terms.proofs.ListLaws.{All-slice_get, place_from_Contains}

@@ -1,5 +1,5 @@
 -- That owed work is complete and justified after any steps.
-use Rattle.std.proofs.Common.{⊎_elim, inl, inr, ℕ, List, [], ◌∷◌, ◌++◌, refl, sym, ap, subst, ◌∙◌, arith, append_assoc, append-nil}
+use Rattle.std.proofs.Common.{⊎_elim, inl, inr, List, [], ◌++◌, refl, sym, ap, subst, ◌∙◌, arith, append_assoc, append-nil}
 use Rattle.graph_meaning.specs.declared.done.Done.{Done}
 use Rattle.graph_meaning.specs.Lawful.{IsLawful}
 use Rattle.graph_meaning.proofs.LawfulLaws.{IsLawful-first}

@@ -1,5 +1,5 @@
 -- That owed work stays complete and justified when operations come.
-use Rattle.std.proofs.Common.{◌≡◌, ℕ, ◌<◌, ◌⊎◌, List, [], ◌++◌, length, Some, slice_get, Contains, refl, sym, subst, ◌∙◌, inl, inr, ⊎_elim, arith}
+use Rattle.std.proofs.Common.{◌≡◌, ℕ, ◌⊎◌, List, [], ◌++◌, length, Some, slice_get, Contains, refl, sym, subst, ◌∙◌, inl, inr, ⊎_elim, arith}
 use Rattle.std.proofs.lemmas.Option.{none-some, same_Some, slice_get_within}
 use Rattle.graph_terms.specs.Terms.{term_row}
 use Rattle.graph_terms.proofs.ListLaws.{element_at, All-slice_get}
