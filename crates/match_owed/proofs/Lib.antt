@@ -1,0 +1,5 @@
+pub mod LogLemmas
+pub mod GiveLemmas
+pub mod DueLemmas
+pub mod StartLemmas
+pub mod BatchLemmas
