@@ -1,6 +1,6 @@
 -- What is asked for, joined into items.
 use Rattle.std.proofs.Common.{◌≡◌, ◌≤◌, ◌<◌, ◌+◌, ◌-◌, ◌⊎◌, ◌↔◌, inl, inr, ⊎_elim, ℕ, zero, suc, List, [], ◌∷◌, ◌++◌, length, slice_get, slice_index_or}
-use Rattle.std.proofs.Common.{Some, AllPairs, Contains, refl, sym, ap, ap₂, subst, ◌∙◌, arith}
+use Rattle.std.proofs.Common.{Some, IfSome, AllPairs, Contains, refl, sym, ap, ap₂, subst, ◌∙◌, arith}
 use Rattle.std.proofs.lemmas.Bool.{cases_lt}
 use Rattle.std.proofs.lemmas.List.{length_push}
 use Rattle.std.proofs.lemmas.List.Elements.{Contains-push, Contains-push_cases, Contains-append_left}
@@ -305,3 +305,24 @@ run_next asked at end first last here is run = record {
 
 pub run_stops : (asked : List Asked) (at end : ℕ) (first : Asked) → ((one : Asked) → slice_get asked end ≡ Some one → IsBeside first one → ⊥) → RunTo asked at end first → IsRun asked at end first
 run_stops asked at end first next run = record { begins = run.begins; after = run.after; within = run.within; beside = run.beside; next = next }
+
+-- the entry of the claim that has its trigger and its start
+pub entry_made : (forest : Forest) (entry : ℕ) (made : Claim) → entry < length forest.entries →
+    IfSome (slice_get forest.entries entry) (λ found. found.trigger ≡ made.trigger) →
+    IfSome (slice_get forest.entries entry) (λ found. found.start ≡ made.start) → IsEntry forest entry made
+entry_made forest entry made lt trigger start =
+    let there = element_at forest.entries entry lt in
+    let t = subst (λ o. IfSome o (λ (found : Entry). found.trigger ≡ made.trigger)) there.1 trigger in
+    let s = subst (λ o. IfSome o (λ (found : Entry). found.start ≡ made.start)) there.1 start in
+    there.1 ∙ ap Some (ap₂ (λ a b. entry_of a b) t s)
+
+-- each of what is asked for the claims is an entry
+pub asked_below : (forest : Forest) (claims : List Claim) (asked : List Asked) → AsksFor forest claims asked → (one : Asked) → Contains asked one → one.entry < length forest.entries
+asked_below forest claims asked asks one has = let of = asks.sound one has in slice_get_within forest.entries one.entry (entry_of of.0.trigger of.0.start) of.2.entry
+
+-- each entry of a run is asked for
+pub entries_below : (asked : List Asked) (at end : ℕ) (entries : List ℕ) (bound : ℕ) → ((one : Asked) → Contains asked one → one.entry < bound) → AreEntries asked at end entries → (entry : ℕ) → Contains entries entry → entry < bound
+entries_below asked at end entries bound below are entry has =
+    let place = place_from_Contains entries entry has in
+    let one = are.each place.0 entry place.1 in
+    subst (λ e. e < bound) one.2 (below one.0 (Contains-slice_get asked (at + place.0) one.0 one.1))

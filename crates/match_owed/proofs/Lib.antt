@@ -1,5 +1,7 @@
 pub mod LogLemmas
+pub mod KeptLemmas
 pub mod GiveLemmas
 pub mod DueLemmas
 pub mod StartLemmas
 pub mod BatchLemmas
+pub mod OrderLemmas

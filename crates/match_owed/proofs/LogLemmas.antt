@@ -67,7 +67,7 @@ none_after x xs key None rest false same h zero event at is = true≢false (sym 
 none_after x xs key None rest false same h (suc place) event at is = rest refl place event at is
 
 pub last_none : (log : List Event) (key : ClaimKey) → last_place log key ≡ None → HasNone log key
-last_none [] key h place event at is = none-some event at
+last_none [] key h = λ place event at is. none-some event at
 last_none (x ∷ xs) key h = none_after x xs key (last_place xs key) (last_none xs key) (is_same (key_of x.claim) key) refl h
 
 later_than : (x : Event) (xs : List Event) (key : ClaimKey) (p : ℕ) → IsLast xs key p → (later : ℕ) (other : Event) → suc p < later → slice_get (x ∷ xs) later ≡ Some other → key_of other.claim ≡ key → ⊥
@@ -379,3 +379,17 @@ first_all log k claims past first = record {
     (λ owes. let there = owes_gift log claim owes in first.complete claim there.0 (let lt = slice_get_within log there.0 (gave claim) there.1.given in omega (arith, lt, past)) there.1),
   );
 }
+
+pub some_owed : (log : List Event) (claim : Claim) → gives_at log (last_place log (key_of claim)) ≡ true → 0 < length (owed_claims log)
+some_owed log claim h = let has = owed_listed log claim h in omega (arith, has.1)
+
+same_event : (log : List Event) (place : ℕ) (event : Event) → slice_get log place ≡ Some event → (claim : Claim) → IsLastGift log claim place → event.claim ≡ claim
+same_event log place event at claim gift = ap (λ (e : Event). e.claim) (same_Some event (gave claim) (sym at ∙ gift.given))
+
+pub given_later : (log : List Event) (place : ℕ) (event : Event) → slice_get log place ≡ Some event → (last : ℕ) → IsLastGift log event.claim last → (last ≡ place → ⊥) → (claim : Claim) → IsLastGift log claim place → ⊥
+given_later log place event at last gift apart claim here =
+    let same = same_event log place event at claim here in
+    apart (same_Some last place (sym (gift_last log claim last (subst (λ c. IsLastGift log c last) same gift)) ∙ gift_last log claim place here))
+
+pub not_owed : (log : List Event) (place : ℕ) (event : Event) → slice_get log place ≡ Some event → (Owes log event.claim → ⊥) → (claim : Claim) → IsLastGift log claim place → ⊥
+not_owed log place event at none claim here = none (subst (Owes log) (sym (same_event log place event at claim here)) (gift_owes log claim place here))

@@ -1,5 +1,5 @@
 //! The log of what happened to claims.
-ghost use Rattle.std.specs.Prelude.{◌≡◌, ◌+◌, ◌-◌, ◌^◌, ◌<◌, ◌≤◌, ◌++◌, ◌∷◌, [], true, false, length, take, slice_get, Some, None, IfSome, IfNone, IfOk, OnOk, OnErr, if◌then◌else◌};
+ghost use Rattle.std.specs.Prelude.{◌≡◌, ℕ, ◌+◌, ◌-◌, ◌^◌, ◌<◌, ◌≤◌, ◌++◌, ◌∷◌, [], true, false, length, take, slice_get, Some, None, IfOk, OnOk, OnErr, if◌then◌else◌};
 ghost use Rattle.indexmap.specs.IndexMap.{ContainsKey, Updates};
 ghost use Rattle.match_owed.specs.LogInside.{gives_at, is_same, key_of, last_place, PutsOwed};
 ghost use Rattle.match_owed.specs.OwedLog.{discharged, gave, AreOwed, CountsOwed, IsLastGift, Owes};
@@ -64,6 +64,14 @@ fn put_back(last: &mut IndexMap<ClaimKey, usize>, key: ClaimKey, before: Option<
             let _place = last.swap_remove(&key);
         }
     }
+}
+
+/// What is noted at the place.
+fn note_at(notes: &[Noted], place: usize) -> Noted
+    requires { place < length notes.now }
+    ensures { slice_get notes.now place ≡ Some result }
+{
+    notes[place]
 }
 
 /// The count, one less where a claim leaves, one more where one comes.
@@ -136,8 +144,8 @@ impl ClaimLog {
 
     /// Where the claim was given last, if it is owed.
     pub fn gift(&self, claim: Claim) -> Option<usize>
-        ensures some { IfSome result (IsLastGift self.now claim) }
-        ensures none { IfNone result (Owes self.now claim → ⊥) }
+        ensures some { (place : ℕ) → result ≡ Some place → IsLastGift self.now claim place }
+        ensures none { result ≡ None → Owes self.now claim → ⊥ }
     {
         let last = self.last_of(claim);
         if self.gives(last) { last } else { None }
@@ -187,7 +195,7 @@ impl ClaimLog {
         ensures { self.new ≡ take (length self.old - 1) self.old }
     {
         let place = self.notes.len() - 1;
-        let noted = self.notes[place];
+        let noted = note_at(&self.notes, place);
         let was_owed = self.gives(noted.before);
         self.notes.truncate(place);
         put_back(&mut self.last, key_from(noted.event.claim), noted.before);
@@ -209,7 +217,7 @@ impl ClaimLog {
         requires { place < length self.now }
         ensures { OnOk result (PutsOwed self.now place claims.old.items claims.new.items) }
     {
-        let event = self.notes[place].event;
+        let event = note_at(&self.notes, place).event;
         if let Some(last) = self.gift(event.claim) {
             if last == place {
                 claims.push(event.claim)?;

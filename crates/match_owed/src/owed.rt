@@ -59,6 +59,14 @@ fn earlier_of(taken: Option<usize>, mark: usize) -> Option<usize>
     }
 }
 
+/// The number at the place.
+fn number_at(numbers: &[u32], at: usize) -> u32
+    requires { at < length numbers.now }
+    ensures { slice_get numbers.now at ≡ Some result }
+{
+    numbers[at]
+}
+
 /// Takes a claim off, unless it came anew since the mark.
 fn discharge_claim(log: &mut ClaimLog, mark: usize, claim: Claim)
     ensures { TakesOff mark (λ other. other ≡ claim) log.old log.new }
@@ -206,7 +214,7 @@ impl Owed {
         ensures some { GivesSome (IsOfEntries starts.now numbers.now term) self.old self.new }
     {
         for i in 0..numbers.len() {
-            let entry = starts.entry(numbers[i]);
+            let entry = starts.entry(number_at(numbers, i));
             self.give(Claim {
                 trigger: entry.trigger,
                 start: entry.start,
