@@ -9,7 +9,8 @@ use Rattle.graph_meaning.proofs.OneListLaws.{one_list}
 use Rattle.graph_meaning.specs.Questions.{AreAll, IsNth}
 use Rattle.graph_meaning.specs.declared.claim.Claim.{Claim}
 use Rattle.match_owed.specs.declared.event.Event.{Event}
-use Rattle.match_owed.specs.OwedLog.{OwedLog, gave, discharged, Owes, CameAnew, Grows, SameButLog}
+use Rattle.match_owed.specs.OwedLog.{OwedLog, gave, discharged, Owes, CameAnew, Grows, IsLastGift, SameButLog}
+use Rattle.match_owed.proofs.LogLemmas.{gift_owes}
 use Rattle.match_owed.specs.Giving.{IsAnew, GivesSome, GivesAll, HasCome}
 
 -- a gift is no discharge
@@ -176,3 +177,11 @@ module _ (P : ℕ → Type 0) (trigger start : ℕ) where
   all_terms k nth = all_as (Below (AtTerm P trigger start) k) (λ claim. (claim.trigger ≡ trigger) × (claim.start ≡ start) × P claim.root)
       (λ c h. (h.2.0, h.2.1, has_it h.0 c.root h.2.2))
       (λ c h. let at = place_from_Contains nth.0 c.root ((nth.1.exact c.root).1 h.2) in (at.0, ⊎_elim (λ less. less) (λ past. absurd (no_more nth.0 k at.0 c.root (sym nth.2) past at.1)) (cases_lt at.0 k), (h.0, h.1, (nth.0, nth.1, sym at.1))))
+
+-- a claim that was given at a mark or later
+pub has_come : (s : OwedLog) (claim : Claim) (place : ℕ) → IsLastGift s.log claim place → ((mark : ℕ) → s.batch ≡ Some mark → mark ≤ place) → HasCome s claim
+has_come s claim place gift late = record { owed = gift_owes s.log claim place gift; anew = λ mark out. (place, late mark out, gift.given) }
+
+-- some of the claims that have the property with one of the first numbers came
+pub below_all : (At : ℕ → Claim → Type 0) (P : Claim → Type 0) (k : ℕ) {old now : OwedLog} → ((j : ℕ) (claim : Claim) → At j claim → P claim) → GivesAll (Below At k) old now → GivesSome P old now
+below_all At P k to given = some_as (Below At k) P (λ c h. to h.0 c h.2) given.some

@@ -5,3 +5,4 @@ pub mod DueLemmas
 pub mod StartLemmas
 pub mod BatchLemmas
 pub mod OrderLemmas
+pub mod DischargeLemmas

@@ -91,8 +91,16 @@ popped state mark = record {
   items = state.items;
 }
 
+-- a level is open, or something is owed
+abbrev pub IsBusy : OwedLog → Type 0
+IsBusy state = (0 < length state.levels) ⊎ ((claim : Claim) × Owes state.log claim)
+
+-- no level is open, and nothing is owed
+pub record IsIdle (state : OwedLog) : Type 0 where
+  pub no_level : length state.levels ≡ 0
+  pub nothing : (claim : Claim) → Owes state.log claim → ⊥
+
 -- the batch ended; the log was cleared where no level is open and nothing is owed, and else it stays
 pub data GivesBack (old new : OwedLog) : Type 0 where
-  stays : (0 < length old.levels) ⊎ ((claim : Claim) × Owes old.log claim) →
-      new ≡ record old { begun = None; batch = None; items = [] } → GivesBack old new
-  clears : length old.levels ≡ 0 → ((claim : Claim) → Owes old.log claim → ⊥) → new ≡ no_work → GivesBack old new
+  stays : IsBusy old → new ≡ record old { begun = None; batch = None; items = [] } → GivesBack old new
+  clears : IsIdle old → new ≡ no_work → GivesBack old new

@@ -1,12 +1,12 @@
 //! Owed claims.
-ghost use Rattle.std.specs.Prelude.{◌≡◌, ◌<◌, ◌-◌, [], ℕ, List, length, take, slice_get, get_or, Some, None, Contains, IsTrue, IsSome, IfSome, IfOk, OnOk, OnErr};
+ghost use Rattle.std.specs.Prelude.{◌≡◌, true, false, ◌<◌, ◌-◌, [], ℕ, List, length, take, slice_get, get_or, Some, None, Contains, IsTrue, IsSome, IfSome, IfOk, OnOk, OnErr};
 ghost use Rattle.graph_trigger.specs.declared.trigger.Trigger.{Trigger as SpecTrigger};
 ghost use Rattle.graph_meaning.specs.Standing.{terms_of, triggers_of};
 ghost use Rattle.match_paths.specs.Paths.{IsThrough, Serves as ServesPaths};
 ghost use Rattle.match_owed.specs.Due.{IsDueStart, IsDueTerm, IsDueTrigger, IsOfEntries, IsOfTerms};
 ghost use Rattle.match_owed.specs.Giving.{GivesAll, GivesSome, HasCome};
 ghost use Rattle.match_owed.specs.Items.{AreItems, HasEntries, TakesBatch};
-ghost use Rattle.match_owed.specs.OwedLog.{earlier_mark, no_work, popped, pushed, CountsOwed, GivesBack, SameButLog, TakesOff};
+ghost use Rattle.match_owed.specs.OwedLog.{earlier_mark, no_work, IsBusy, IsIdle, popped, pushed, CountsOwed, GivesBack, SameButLog, TakesOff};
 ghost use Rattle.match_owed.specs.Starts.{Serves};
 
 use crate::batching::{asked_in_order, joined};
@@ -337,11 +337,23 @@ impl Owed {
         requires { IsSome self.old.batch }
         ensures { GivesBack self.old self.new }
     {
+        let idle = self.is_idle();
         self.begun = None;
         self.batch = None;
         self.items.clear();
-        if self.levels.len() == 0 && self.log.owed() == 0 {
+        if idle {
             self.log.cut(0);
         }
+    }
+
+    /// Whether no level is open and nothing is owed.
+    fn is_idle(&self) -> bool
+        ensures yes { result ≡ true → IsIdle self.now }
+        ensures no { result ≡ false → IsBusy self.now }
+    {
+        if self.levels.len() > 0 {
+            return false;
+        }
+        self.log.owed() == 0
     }
 }

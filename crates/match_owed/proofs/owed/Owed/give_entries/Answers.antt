@@ -20,7 +20,7 @@ returns-in_err-give-clause-some c = below_some (AtEntry c.args.starts.now c.args
     (some_none (AtEntry c.args.starts.now c.args.numbers.now c.args.term c.loop-i.i) c.loop-i.self c.give.new.self c.in_err-give.ensures.err) c.loop-i.invariant
 
 pub returns-clause-ok : goal.returns-clause-ok
-returns-clause-ok c = all_entries c.args.starts.now c.args.numbers.now c.args.term c.loop-i.i (omega (arith, c.loop-i-test.false, c.len-i-end.ensures)) c.loop-i.invariant
+returns-clause-ok c = all_entries c.args.starts.now c.args.numbers.now c.args.term c.loop-i.i (omega (arith, c.loop-i-test.false)) c.loop-i.invariant
 
 pub returns-clause-some : goal.returns-clause-some
-returns-clause-some c = (all_entries c.args.starts.now c.args.numbers.now c.args.term c.loop-i.i (omega (arith, c.loop-i-test.false, c.len-i-end.ensures)) c.loop-i.invariant).some
+returns-clause-some c = (all_entries c.args.starts.now c.args.numbers.now c.args.term c.loop-i.i (omega (arith, c.loop-i-test.false)) c.loop-i.invariant).some

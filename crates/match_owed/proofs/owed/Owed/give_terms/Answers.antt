@@ -1,6 +1,6 @@
 use Rattle.graph_meaning.specs.Questions.{HasSymbol}
 use Rattle.match_owed.specs.Due.{IsOfTerms}
-use Rattle.match_owed.proofs.GiveLemmas.{AtTerm, all_terms, at_term, below_next, below_none, below_some, has_it, some_none}
+use Rattle.match_owed.proofs.GiveLemmas.{AtTerm, all_terms, at_term, below_all, below_next, below_none, below_some, has_it, some_none}
 use Rattle.match_owed.proofs.owed.Owed.give_terms.Goals as goal
 
 pub loop-k-init : goal.loop-k-init
@@ -20,3 +20,7 @@ pub returns-in_err-give-in-Some-clause-some : goal.returns-in_err-give-in-Some-c
 returns-in_err-give-in-Some-clause-some g c = below_some (AtTerm (HasSymbol (g.G.ClassGraph.standing c.args.graph.now) c.args.symbol) c.args.trigger c.args.start) (IsOfTerms (g.G.ClassGraph.standing c.args.graph.now) c.args.trigger c.args.start c.args.symbol) c.loop-k.k
     (λ j claim le at. (at.0, at.1, has_it (HasSymbol (g.G.ClassGraph.standing c.args.graph.now) c.args.symbol) c.args.trigger c.args.start j claim.root at.2))
     (some_none (AtTerm (HasSymbol (g.G.ClassGraph.standing c.args.graph.now) c.args.symbol) c.args.trigger c.args.start c.loop-k.k) c.loop-k.self c.give.new.self c.in_err-give-in-Some.ensures.err) c.loop-k.invariant
+
+pub returns-clause-some : goal.returns-clause-some
+returns-clause-some g c = below_all (AtTerm (HasSymbol (g.G.ClassGraph.standing c.args.graph.now) c.args.symbol) c.args.trigger c.args.start) (IsOfTerms (g.G.ClassGraph.standing c.args.graph.now) c.args.trigger c.args.start c.args.symbol) c.loop-k.k
+    (λ j claim at. (at.0, at.1, has_it (HasSymbol (g.G.ClassGraph.standing c.args.graph.now) c.args.symbol) c.args.trigger c.args.start j claim.root at.2)) c.loop-k.invariant
