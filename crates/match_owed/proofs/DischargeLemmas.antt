@@ -2,10 +2,10 @@
 use Rattle.std.proofs.Common.{◌≡◌, ◌<◌, ◌≤◌, ◌+◌, ◌⊎◌, inl, inr, ⊎_elim, ℕ, List, [], ◌∷◌, ◌++◌, length, slice_get, Some, Contains, refl, sym, ap, subst, ◌∙◌, arith}
 use Rattle.std.proofs.lemmas.Bool.{cases_eq, cases_lt}
 use Rattle.std.proofs.lemmas.Option.{same_Some, slice_get_within}
-use Rattle.graph_terms.proofs.ListLaws.{slice_get-append_left, slice_get-push, push_cases, place_from_Contains, Contains-slice_get}
+use Rattle.graph_terms.proofs.ListLaws.{element_at, slice_get-append_left, slice_get-push, push_cases, place_from_Contains, Contains-slice_get}
 use Rattle.graph_meaning.specs.declared.claim.Claim.{Claim}
 use Rattle.match_owed.specs.declared.event.Event.{Event}
-use Rattle.match_owed.specs.OwedLog.{gave, discharged, Owes, CameAnew, Grows, IsLastGift, TakesOff}
+use Rattle.match_owed.specs.OwedLog.{gave, discharged, Owes, CountsOwed, CameAnew, Grows, IsBusy, IsIdle, IsLastGift, OwedLog, TakesOff}
 use Rattle.match_owed.proofs.GiveLemmas.{other_event, grows_same, grows_on, anew_on}
 
 -- whether two claims are one can be told
@@ -88,3 +88,16 @@ takes_all mark claims k old now past takes = record {
   goes = λ c has. let at = place_from_Contains claims c has in takes.goes c (at.0, (let lt = slice_get_within claims at.0 c at.1 in omega (arith, lt, past)), at.1);
   anew = takes.anew;
 }
+
+-- no level is open and nothing is owed, by the count
+pub idle_from : (s : OwedLog) (count : ℕ) → CountsOwed s.log count → length s.levels ≡ 0 → count ≡ 0 → IsIdle s
+idle_from s count counts none zero = record {
+  no_level = none;
+  nothing = λ claim owes. absurd (let has = (counts.1.exact claim).1 owes in omega (arith, has.1, counts.2, zero));
+}
+
+-- something is owed, by the count
+pub busy_from : (s : OwedLog) (count : ℕ) → CountsOwed s.log count → 0 < count → IsBusy s
+busy_from s count counts some =
+    let first = element_at counts.0 0 (omega (arith, counts.2, some)) in
+    inr (first.0, (counts.1.exact first.0).0 (Contains-slice_get counts.0 0 first.0 first.1))

@@ -151,7 +151,7 @@ impl Owed {
 
     /// Whether a claim is owed, and came anew where a batch is out.
     fn has_come(&self, claim: Claim) -> bool
-        ensures { IsTrue result → HasCome self.now claim }
+        ensures { result ≡ true → HasCome self.now claim }
     {
         match self.log.gift(claim) {
             Some(place) => match self.batch {
