@@ -1,0 +1,4 @@
+pub mod Weighing
+pub mod Deals
+pub mod Finding
+pub mod Linking

@@ -1,0 +1,19 @@
+use Rattle.std.proofs.Common.{rules, ◌≡◌, ◌+◌, ◌∷◌, ℕ}
+use Rattle.std.proofs.lemmas.Result.{on_ok_weaker}
+use Rattle.match_pool.specs.Ring.{pushed_by, starved_by, taken_by}
+use Rattle.match_pool.specs.Stealing.{known, stolen}
+use Rattle.match_pool.specs.Weights.{weigh}
+use Rattle.match_pool.proofs.Linking.{gathers}
+use Rattle.match_pool.proofs.ring.+gather_rest.Goals as goal
+
+pub returns-clause-starved : goal.returns-clause-starved
+returns-clause-starved t c =
+    let m = c.in-Some.m.now in
+    let more = c.in-Some.more.now in
+    let o = c.args.owner.now in
+    let whole : c.args.rest.now ≡ m ∷ more = search rules in
+    on_ok_weaker c.gather_rest.result
+    (λ (e : (h : ℕ → ℕ) → weigh h c.put_found.new.pieces.starved.items + weigh h (known o).pushed + pushed_by h more + starved_by h more ≡ weigh h c.gather_rest.new.pieces.starved.items + weigh h (known o).taken + weigh h (stolen c.take.result) + taken_by h more) h.
+    gathers h m more c.args.rest.now o c.args.next c.take.result c.args.pieces.now.starved.items c.close-2.new.starved.items c.put_found.new.pieces.starved.items c.gather_rest.new.pieces.starved.items whole
+    (c.in_ok-close.ensures h) c.in_ok-put_found.ensures.starved c.take.ensures.value (e h))
+    c.gather_rest.ensures.starved
