@@ -3,3 +3,4 @@ pub mod Gathering
 pub mod GraphInside
 pub mod GraphTerms
 pub mod GraphTermsLaws
+pub mod WholeBatch

@@ -13,6 +13,7 @@ ghost use Rattle.graph_congruence.specs.Clash.{IsClash};
 ghost use Rattle.graph_congruence.specs.Operations.{CanTakeBack, taken_back};
 ghost use Rattle.match_graph.specs.AllMatches.{AreAllMatches};
 ghost use Rattle.match_graph.specs.GraphTerms.{with_terms};
+ghost use Rattle.match_forest.specs.Forest.{Serves};
 ghost use Rattle.graph_trigger.specs.Trigger.{IsValid};
 
 use crate::matches::all_matches_of;
@@ -196,6 +197,14 @@ impl MatchingGraph {
         ensures { IfOk result (λ lists. AreAllMatches self.now.standing lists.items) }
     {
         all_matches_of(alloc, &self.forest, &self.graph)
+    }
+
+    /// The codes of the live triggers, in order. Takes no memory.
+    pub fn forest(&self) -> &CodeForest
+        ensures { Serves result.now (triggers_of self.now.standing) }
+    {
+        let _graph = &self.graph;
+        &self.forest
     }
 }
 

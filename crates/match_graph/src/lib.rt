@@ -2,7 +2,11 @@
 #![tactic(auto)]
 
 pub mod graph;
+pub mod matchers;
 mod matches;
 mod roots;
+pub mod whole_batch;
 
 pub use graph::MatchingGraph;
+pub use matchers::{Alone, Matchers};
+pub use whole_batch::whole_batch;

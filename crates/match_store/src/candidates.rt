@@ -6,7 +6,7 @@ ghost use Rattle.match_store.specs.Candidates.{AreCandidates, HaveMatches};
 
 use graph_meaning::ClassGraph;
 use graph_terms::{Memory, Numbers};
-use match_graph::MatchingGraph;
+use match_graph::{Matchers, MatchingGraph};
 use match_machine::TupleList;
 use std::alloc::Global;
 
@@ -55,10 +55,14 @@ fn gathered<G: ClassGraph>(
 }
 
 /// The matches of all live triggers, each under its forall, in order, each once.
-pub fn candidates(alloc: Global, graph: &MatchingGraph) -> Result<TupleList, Memory>
+pub fn candidates<M: Matchers>(
+    alloc: Global,
+    matchers: &M,
+    graph: &MatchingGraph,
+) -> Result<TupleList, Memory>
     ensures { IfOk result (λ keys. AreCandidates graph.now.standing keys) }
 {
-    let lists = graph.all_matches(alloc)?;
+    let lists = matchers.all_matches(alloc, graph)?;
     let mut keys = gathered(alloc, graph, lists.as_slice())?;
     keys.arrange()?;
     Ok(keys)

@@ -11,7 +11,7 @@ use crate::done_keys::done_keys;
 use crate::instance::Instance;
 use crate::key_set::KeySet;
 use graph_terms::{Memory, Numbers};
-use match_graph::MatchingGraph;
+use match_graph::{Matchers, MatchingGraph};
 use std::alloc::Global;
 
 /// The instance of a key.
@@ -44,16 +44,17 @@ fn left_over(alloc: Global, candidates: &[Numbers], done: &KeySet) -> Result<Vec
 
 /// The new instances, by forall and then by tuple, each once: the matches of the live triggers, as tuples of leaders,
 /// of which no done instance of the forall is equal place by place. Terms of done instances that do not stand in the
-/// graph equal none. It costs the matches and the done instances, and not their product. `Memory` comes where memory is
+/// graph equal none. The matchers find the matches. It costs the matches and the done instances, and not their product. `Memory` comes where memory is
 /// refused.
-pub fn new_instances(
+pub fn new_instances<M: Matchers>(
     alloc: Global,
+    matchers: &M,
     graph: &MatchingGraph,
     done: &DoneInstances,
 ) -> Result<Vec<Instance>, Memory>
     ensures { IfOk result (λ instances. AreNew graph.now.standing done.now instances.items) }
 {
-    let found = candidates(alloc, graph)?;
+    let found = candidates(alloc, matchers, graph)?;
     let keys = done_keys(alloc, graph, done)?;
     let instances = left_over(alloc, found.as_slice(), &keys)?;
     Ok(instances)

@@ -10,11 +10,17 @@ use crate::search::Search;
 use formula_assert::AssertionStack;
 use formula_assert::laws::over_law;
 use formula_table::EnterFault;
+use match_graph::Matchers;
 use search_laws::laws::{sat_law, unsat_law};
 use std::alloc::Global;
 
 /// Searches what the stack holds, with so many rounds. More is held after it, in the same levels.
-fn search(alloc: Global, stack: &mut AssertionStack, rounds: u32) -> Result<Outcome, EnterFault>
+fn search<M: Matchers>(
+    alloc: Global,
+    matchers: &M,
+    stack: &mut AssertionStack,
+    rounds: u32,
+) -> Result<Outcome, EnterFault>
     requires { HoldsExactly stack.old.formulas (held_of stack.old) }
     ensures verdict { IfOk result (IsVerdictOf rounds stack.old.formulas (held_of stack.old)) }
     ensures limit { IfErr result (IsPastLimit rounds stack.old.formulas (held_of stack.old)) }
@@ -23,14 +29,15 @@ fn search(alloc: Global, stack: &mut AssertionStack, rounds: u32) -> Result<Outc
     over_law();
     let mut search = Search::new(alloc, stack)?;
     for _step in 0..u64::MAX {
-        if let Some(outcome) = search.advance(alloc, stack, rounds)? {
+        if let Some(outcome) = search.advance(alloc, matchers, stack, rounds)? {
             return Ok(outcome);
         }
     }
     Err(EnterFault::Memory)
 }
 
-/// Decides what the stack holds by the plain search, with so many rounds of instances. What is held is to be exactly what
+/// Decides what the stack holds by the plain search, with so many rounds of instances, for which the matchers find the
+/// matches: whoever they are, the answer is the same. What is held is to be exactly what
 /// the asserted nodes stand for. Whatever is answered, the stack is as before.
 ///
 /// `Unsat` tells that finitely many instances of foralls refute what is asserted, and the leaders that come with `Sat` make
@@ -38,7 +45,12 @@ fn search(alloc: Global, stack: &mut AssertionStack, rounds: u32) -> Result<Outc
 ///
 /// `TermsFull` and `NodesFull` come where the search comes to an instance for which there is no room. `Memory` comes where
 /// memory is refused, or a count would have passed the greatest number of its type.
-pub fn check(alloc: Global, stack: &mut AssertionStack, rounds: u32) -> Result<Outcome, EnterFault>
+pub fn check<M: Matchers>(
+    alloc: Global,
+    matchers: &M,
+    stack: &mut AssertionStack,
+    rounds: u32,
+) -> Result<Outcome, EnterFault>
     requires exact { HoldsExactly stack.old.formulas (held_of stack.old) }
     ensures verdict { IfOk result (IsVerdictOf rounds stack.old.formulas (held_of stack.old)) }
     ensures limit { IfErr result (IsPastLimit rounds stack.old.formulas (held_of stack.old)) }
@@ -49,7 +61,7 @@ pub fn check(alloc: Global, stack: &mut AssertionStack, rounds: u32) -> Result<O
     unsat_law();
     sat_law();
     let mark = stack.mark();
-    let outcome = search(alloc, stack, rounds);
+    let outcome = search(alloc, matchers, stack, rounds);
     stack.back_to(mark);
     outcome
 }

@@ -22,6 +22,7 @@ use formula_assert::AssertionStack;
 use formula_assert::laws::over_law;
 use formula_table::EnterFault;
 use graph_terms::Memory;
+use match_graph::Matchers;
 use match_store::{DoneInstances, Instance, new_instances};
 use search_branch::{BranchValues, Step};
 use std::alloc::Global;
@@ -235,9 +236,10 @@ impl Search {
 
     /// Where no disjunction is open: the way out, if no forall is live; else the next round, if some instance is new and
     /// a round is left.
-    fn nothing_open(
+    fn nothing_open<M: Matchers>(
         &mut self,
         alloc: Global,
+        matchers: &M,
         stack: &mut AssertionStack,
         rounds: u32,
     ) -> Result<Option<Outcome>, EnterFault>
@@ -252,7 +254,7 @@ impl Search {
             return Ok(self.way_out(alloc, stack)?);
         }
         let _rules = stack.depth();
-        let instances = new_instances(alloc, stack.graph(), &self.done)?;
+        let instances = new_instances(alloc, matchers, stack.graph(), &self.done)?;
         if instances.is_empty() {
             return Ok(self.ends_open(alloc, stack, Why::Settled)?);
         }
@@ -263,9 +265,10 @@ impl Search {
     }
 
     /// Does the next step, and gives the outcome where that was the last.
-    pub(crate) fn advance(
+    pub(crate) fn advance<M: Matchers>(
         &mut self,
         alloc: Global,
+        matchers: &M,
         stack: &mut AssertionStack,
         rounds: u32,
     ) -> Result<Option<Outcome>, EnterFault>
@@ -279,7 +282,7 @@ impl Search {
             Step::Lost => Ok(self.take_up(alloc, stack)?),
             Step::Assert { part } => Ok(self.assert(alloc, stack, part)?),
             Step::Split { node, place, part } => Ok(self.split(alloc, stack, node, place, part)?),
-            Step::WayOut => self.nothing_open(alloc, stack, rounds),
+            Step::WayOut => self.nothing_open(alloc, matchers, stack, rounds),
         }
     }
 }
