@@ -5,8 +5,8 @@ pub mod graph;
 pub mod matchers;
 mod matches;
 mod roots;
-pub mod whole_batch;
+pub mod whole;
 
 pub use graph::MatchingGraph;
 pub use matchers::{Alone, Matchers};
-pub use whole_batch::whole_batch;
+pub use whole::whole_batch;
