@@ -1,5 +1,5 @@
-mod Counting
-mod Telling
-mod Putting
-mod Arranging
-mod Gathering
+mod CountingLemmas
+mod TellingLemmas
+mod PuttingLemmas
+mod ArrangingLemmas
+mod GatheringLemmas

@@ -1,4 +1,4 @@
-use Rattle.match_workers.proofs.Arranging.{all_arranged}
+use Rattle.match_workers.proofs.ArrangingLemmas.{all_arranged}
 use Rattle.match_workers.proofs.workers.matched_by.Goals as goal
 
 pub returns : goal.returns
