@@ -1,0 +1,5 @@
+mod Counting
+mod Telling
+mod Putting
+mod Arranging
+mod Gathering
