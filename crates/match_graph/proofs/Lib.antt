@@ -2,3 +2,4 @@ pub mod GatherLemmas
 pub mod StepLemmas
 pub mod RootLemmas
 pub mod EntryLemmas
+pub mod WholeLemmas

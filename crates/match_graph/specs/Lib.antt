@@ -1,4 +1,6 @@
 pub mod AllMatches
+pub mod Asking
+pub mod FirstEntries
 pub mod Gathering
 pub mod GraphInside
 pub mod GraphTerms

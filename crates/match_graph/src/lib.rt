@@ -1,6 +1,7 @@
 //! A graph of terms with the codes of its live triggers, and all matches of each.
 #![tactic(auto)]
 
+mod firsts;
 pub mod graph;
 pub mod matchers;
 mod matches;

@@ -44,8 +44,8 @@ fn left_over(alloc: Global, candidates: &[Numbers], done: &KeySet) -> Result<Vec
 
 /// The new instances, by forall and then by tuple, each once: the matches of the live triggers, as tuples of leaders,
 /// of which no done instance of the forall is equal place by place. Terms of done instances that do not stand in the
-/// graph equal none. The matchers find the matches. It costs the matches and the done instances, and not their product. `Memory` comes where memory is
-/// refused.
+/// graph equal none. The matchers find the matches: whoever they are, the instances are the same. It costs the matches
+/// and the done instances, and not their product. `Memory` comes where memory is refused.
 pub fn new_instances<M: Matchers>(
     alloc: Global,
     matchers: &M,

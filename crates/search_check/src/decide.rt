@@ -37,8 +37,8 @@ fn search<M: Matchers>(
 }
 
 /// Decides what the stack holds by the plain search, with so many rounds of instances, for which the matchers find the
-/// matches: whoever they are, the answer is the same. What is held is to be exactly what
-/// the asserted nodes stand for. Whatever is answered, the stack is as before.
+/// matches: each clause holds whoever they are. What is held is to be exactly what the asserted nodes stand for. Whatever
+/// is answered, the stack is as before.
 ///
 /// `Unsat` tells that finitely many instances of foralls refute what is asserted, and the leaders that come with `Sat` make
 /// an assignment that satisfies it.
