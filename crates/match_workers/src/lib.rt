@@ -2,7 +2,7 @@
 #![tactic(auto)]
 
 mod lists;
+pub mod matching;
 mod telling;
-pub mod workers;
 
-pub use workers::Workers;
+pub use matching::all_matches_by;
