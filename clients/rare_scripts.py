@@ -198,7 +198,7 @@ class RareScript:
 
     def leaf(self, sort, bound):
         """A term without constants that may be hidden."""
-        return {"U": "fixed", "Bool": self.pick("true", "false"), "Shape": f"(dot fixed)", "Tree": "leaf"}[sort]
+        return {"U": "fixed", "Bool": self.pick("true", "false"), "Shape": "(dot fixed)", "Tree": "leaf"}[sort]
 
     def built(self, sort, term):
         """An application of the sort."""

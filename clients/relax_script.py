@@ -267,7 +267,10 @@ class Relaxer:
         if not is_symbol(tree) or tree.text in RESERVED:
             raise LeftOut("a name that may not be declared")
         name = tree.text
-        if name in self.record.table(table) or name in (CORE if table == "functions" else ("Bool",)):
+        standing = self.record.table(table).get(name)
+        if isinstance(standing, DatatypeMember) and standing.kind == "is":
+            return name
+        if standing is not None or name in (CORE if table == "functions" else ("Bool",)):
             if table == "functions" and name not in CORE:
                 self._set(table, name, LeftOut(f"{name} is declared twice"))
             raise LeftOut(f"{name} is already declared")
@@ -424,7 +427,8 @@ class Relaxer:
                 self._set("sorts", datatype.name, DeclaredSort(datatype.name, len(datatype.parameters)))
             raise
         for name, member in members:
-            self._set("functions", name, member)
+            if member.kind != "is" or name not in self.record.table("functions"):
+                self._set("functions", name, member)
         return "kept: a sort, constructors, selectors and testers as functions, where they are used"
 
     def _members(self, datatype, body):
