@@ -67,7 +67,8 @@ class RareScript:
             self.levels -= 1
             self.write("(pop 1)")
         elif kind == 2:
-            self.lines.append(f"(check-sat-assuming ({' '.join([self.literal() for _ in range(self.pick(0, 1, 2, 3))])}))")
+            literals = [self.literal() for _ in range(self.pick(0, 1, 2, 3))]
+            self.lines.append(f"(check-sat-assuming ({' '.join(literals)}))")
         elif kind == 3:
             self.lines.append("(check-sat)")
         elif kind == 4:
@@ -148,8 +149,8 @@ class RareScript:
         return self.pick(
             lambda: f"(match {self.term('Shape', 1, bound)} (((dot x) {inside({'x': 'U'})}) "
                     f"((line x u p) {inside({'x': 'U', 'u': 'U', 'p': 'Bool'})})))",
-            lambda: f"(match {self.term('Tree', 1, bound)} (((node d x y) {inside({'d': 'Tree', 'x': 'U', 'y': 'Tree'})}) "
-                    f"(u {inside({'u': 'Tree'})})))",
+            lambda: f"(match {self.term('Tree', 1, bound)} (((node d x y) "
+                    f"{inside({'d': 'Tree', 'x': 'U', 'y': 'Tree'})}) (u {inside({'u': 'Tree'})})))",
             lambda: f"(match {self.term('(Either U Bool)', 1, bound)} (((this u) {inside({'u': 'U'})}) "
                     f"((that y) {inside({'y': 'Bool'})})))")()
 
@@ -174,10 +175,12 @@ class RareScript:
             return f"({self.pick('=', '=', 'distinct')} {term(sort)} {term(sort)})"
         if kind == 5:
             return f"(w {term('Bool')})"
-        return self.pick(lambda: f"(thick {term('Shape')})", lambda: f"((_ is {self.pick('dot', 'line')}) {term('Shape')})",
+        return self.pick(lambda: f"(thick {term('Shape')})",
+                         lambda: f"((_ is {self.pick('dot', 'line')}) {term('Shape')})",
                          lambda: f"((_ is node) {term('Tree')})", lambda: f"(turned {term('Bool')} {term('Bool')})",
                          lambda: f"(reaches {term('U')})", lambda: f"(is-small {term('U')})",
-                         lambda: f"(distinct {term('U')} {term('U')} {term('U')})", lambda: f"(there {term('(Either U Bool)')})",
+                         lambda: f"(distinct {term('U')} {term('U')} {term('U')})",
+                         lambda: f"(there {term('(Either U Bool)')})",
                          lambda: term("Bool"))()
 
     # Terms
@@ -193,7 +196,8 @@ class RareScript:
         if sort == "Bool":
             return self.formula(depth - 1, bound)
         if self.one_in(5):
-            return f"(ite {self.formula(depth - 1, bound)} {self.term(sort, depth - 1, bound)} {self.term(sort, 0, bound)})"
+            yes, no = self.term(sort, depth - 1, bound), self.term(sort, 0, bound)
+            return f"(ite {self.formula(depth - 1, bound)} {yes} {no})"
         return self.built(sort, lambda other: self.term(other, depth - 1, bound))
 
     def leaf(self, sort, bound):
@@ -203,10 +207,12 @@ class RareScript:
     def built(self, sort, term):
         """An application of the sort."""
         return self.random.choice({
-            "U": lambda: [f"(f {term('U')})", f"(h {term('Bool')} {term('Bool')})", f"(chosen {term('U')} {term('Bool')})",
-                          f"(place {term('Shape')})", f"(to {term('Shape')})", f"(item {term('Tree')})",
+            "U": lambda: [f"(f {term('U')})", f"(h {term('Bool')} {term('Bool')})",
+                          f"(chosen {term('U')} {term('Bool')})", f"(place {term('Shape')})",
+                          f"(to {term('Shape')})", f"(item {term('Tree')})",
                           f"(here {term('(Either U Bool)')})"],
             "Shape": lambda: [f"(dot {term('U')})", f"(line {term('U')} {term('U')} {term('Bool')})"],
             "Tree": lambda: ["leaf", f"(left {term('Tree')})", f"(node {term('Tree')} {term('U')} leaf)"],
-            "(Either U Bool)": lambda: [f"((as this (Either U Bool)) {term('U')})", f"((as that (Either U Bool)) {term('Bool')})"],
+            "(Either U Bool)": lambda: [f"((as this (Either U Bool)) {term('U')})",
+                                        f"((as that (Either U Bool)) {term('Bool')})"],
         }[sort]())

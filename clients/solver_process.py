@@ -81,7 +81,8 @@ class SolverProcess:
         self.child = subprocess.Popen(self.words, stdin=subprocess.PIPE, stdout=subprocess.PIPE, bufsize=0)
         os.set_blocking(self.child.stdin.fileno(), False)
         self.unread = self.unwritten = b""
-        return [text for depth, commands in enumerate(self.kept) for text in (["(push 1)"] if depth > 0 else []) + commands]
+        pushed = [commands if depth == 0 else ["(push 1)", *commands] for depth, commands in enumerate(self.kept)]
+        return [text for commands in pushed for text in commands]
 
     def _write(self, commands, deadline):
         """Whether the run took all that was written by the deadline; what it did not take is kept for the next time."""
