@@ -48,10 +48,10 @@ def label_of(tree):
     return None
 
 
-def failing_labels(labels, is_proved, seconds):
+def failing_labels(labels, is_proved, deadline):
     """The labels of a path and of the assertion at its end that is not proved. `is_proved` tells of a list of commands
-    whether what stands is refuted with them. None where each assertion alone is proved, or the time is over."""
-    deadline = time.monotonic() + seconds
+    whether what stands is refuted with them. None where each assertion alone is proved, or the time is over, which is so
+    from `deadline` on as `time.monotonic` counts."""
     assertions = [label for label in labels if label.is_assertion]
     for failing in assertions:
         given_away = [label.giving_away() for label in assertions if label is not failing]
@@ -74,4 +74,4 @@ def path_to(failing, labels, given_away, is_proved, deadline):
             path.append(label)
         else:
             given_away = given_away + [label.giving_away()]
-    return path + [failing]
+    return None if time.monotonic() > deadline else path + [failing]

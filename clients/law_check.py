@@ -69,15 +69,15 @@ def z3_answers(text, milliseconds):
     return answers(["z3", "-in"], f"(set-option :timeout {milliseconds})\n" + text, 20)
 
 
-def consistent_text(seed):
-    """The script of a seed that has a model, as far as `z3` knows."""
+def consistent_text(seed, kind=ConsistentScript):
+    """The script of a seed that has a model, as far as `z3` knows; `kind` is the class that makes it."""
     with subprocess.Popen(["z3", "-in"], stdin=subprocess.PIPE, stdout=subprocess.PIPE) as z3:
         def ask(commands):
             z3.stdin.write(commands.encode("latin-1"))
             z3.stdin.flush()
             return z3.stdout.readline().decode("latin-1").rstrip("\n")
         z3.stdin.write(b"(set-option :timeout 200)\n")
-        text = ConsistentScript(seed, ask).text
+        text = kind(seed, ask).text
         z3.stdin.close()
         z3.kill()
     return text

@@ -188,18 +188,26 @@ class Relaxer:
     def _check_assuming(self, tree):
         """A check under assumptions: a level with the assumptions, and the check in it."""
         self.record.push(1)
-        for literal in tree[1] if len(tree) == 2 and isinstance(tree[1], list) else [None]:
-            self.terms.start()
-            self.weakening.start()
-            if literal is None:
-                self._leave("check-sat-assuming", "assumptions of another form")
-            else:
-                self._careful_state("check-sat-assuming", lambda literal=literal: self.terms.formula(literal))
+        self.script.opened = []
+        is_list = len(tree) == 2 and isinstance(tree[1], list)
+        notes = [self._assume(literal) for literal in tree[1]] if is_list else [self._leave("assumptions of another form")]
+        notes += [f"left open: {', '.join(self.script.opened)}"] if self.script.opened else []
+        told = [note for note in dict.fromkeys(notes) if not note.startswith("rewritten")]
         commands = ["(push 1)", *self.script.take(), "(check-sat)", "(pop 1)"]
-        self._say("check-sat-assuming", "rewritten: a level with the assumptions")
+        self._say("check-sat-assuming", "; ".join(["rewritten: a level with the assumptions", *told]))
         self.weaker_at_check = self.weaker
         self.record.pop(1)
         return self._silent(commands)
+
+    def _assume(self, literal):
+        """States an assumption, or drops it. Gives what became of it."""
+        self.terms.start()
+        self.weakening.start()
+        try:
+            self.script.state(self.weakening.formula(self.terms.formula(literal)))
+            return self._note_dropped()
+        except (LeftOut, RecursionError) as reason:
+            return self._leave(str(reason) or "nested too deep")
 
     # Commands with terms
 
@@ -211,24 +219,16 @@ class Relaxer:
         try:
             what = self.heads[head](tree, text)
         except (LeftOut, RecursionError) as reason:
-            what = self._leave(head, str(reason) or "nested too deep")
+            what = self._leave(str(reason) or "nested too deep")
         if self.script.opened:
             what += f"; left open: {', '.join(self.script.opened)}"
         self._say(head, what)
         return self.script.take()
 
-    def _leave(self, head, reason):
+    def _leave(self, reason):
         """Notes that something was dropped, and says so."""
         self.record.set("weaker", ("dropped", self.number), True)
         return f"dropped: {reason}"
-
-    def _careful_state(self, head, make):
-        """States the formula that `make` gives, or drops it."""
-        try:
-            self.script.state(self.weakening.formula(make()))
-            self._note_dropped()
-        except (LeftOut, RecursionError) as reason:
-            self._say(head, self._leave(head, str(reason) or "nested too deep"))
 
     def _note_dropped(self):
         """What became of a formula, in words."""
@@ -250,7 +250,7 @@ class Relaxer:
                 return "as it is"
         self.script.state(written)
         if written is self.maker.true and self.weakening.dropped:
-            return self._leave("assert", "; ".join(dict.fromkeys(self.weakening.dropped + self.terms.left_out)))
+            return self._leave("; ".join(dict.fromkeys(self.weakening.dropped + self.terms.left_out)))
         return self._note_dropped()
 
     # Declarations and definitions
@@ -267,7 +267,10 @@ class Relaxer:
         if not is_symbol(tree) or tree.text in RESERVED:
             raise LeftOut("a name that may not be declared")
         name = tree.text
-        if name in self.record.table(table) or name in (CORE if table == "functions" else ("Bool",)):
+        standing = self.record.table(table).get(name)
+        if isinstance(standing, DatatypeMember) and standing.kind == "is":
+            return name
+        if standing is not None or name in (CORE if table == "functions" else ("Bool",)):
             if table == "functions" and name not in CORE:
                 self._set(table, name, LeftOut(f"{name} is declared twice"))
             raise LeftOut(f"{name} is already declared")
@@ -424,7 +427,8 @@ class Relaxer:
                 self._set("sorts", datatype.name, DeclaredSort(datatype.name, len(datatype.parameters)))
             raise
         for name, member in members:
-            self._set("functions", name, member)
+            if member.kind != "is" or name not in self.record.table("functions"):
+                self._set("functions", name, member)
         return "kept: a sort, constructors, selectors and testers as functions, where they are used"
 
     def _members(self, datatype, body):

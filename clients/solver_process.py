@@ -7,6 +7,8 @@ import time
 
 from script_text import read_command
 
+PIECE_BYTES = 1 << 16
+
 
 class SolverProcess:
     """What stands is kept here, level by level, so that a run that ended by an error or was cut off can be begun anew.
@@ -19,35 +21,36 @@ class SolverProcess:
         self.kept = [[]]
         self.child = None
         self.unread = b""
+        self.unwritten = b""
         self.reason = "incomplete"
 
     def do(self, commands):
-        """Hands commands on that are not answered, and keeps what stands."""
+        """Hands commands on that are not answered, and keeps what stands. It never waits: what the run does not take now it
+        is given at the next check."""
         for text in commands:
             self._keep(text)
         if self.child is not None:
-            self._write(commands)
+            self._write(commands, time.monotonic())
 
     def check(self, seconds):
         """`sat`, `unsat` or `unknown`, within so many seconds (None is for ever). Where no answer comes, it is `unknown`
         and the run is ended."""
         self.reason = "incomplete"
         deadline = None if seconds is None else time.monotonic() + seconds
-        if self.child is None:
-            self._start()
-        if self._write(["(check-sat)"]):
+        standing = self._start() if self.child is None else []
+        if self._write([*standing, "(check-sat)"], deadline):
             verdict = self._line(deadline)
             if verdict in ("sat", "unsat"):
                 return verdict
-            if verdict == "unknown" and self._has_told_why():
+            if verdict == "unknown" and self._has_told_why(deadline):
                 return verdict
-            self.reason = verdict if verdict is not None else self.reason
+            self.reason = self.reason if verdict in ("unknown", None) else verdict
         self.end()
         return "unknown"
 
-    def _has_told_why(self):
+    def _has_told_why(self, deadline):
         """Asks why the verdict was `unknown`; whether the answer came."""
-        answer = self._line(None) if self._write(["(get-info :reason-unknown)"]) else None
+        answer = self._line(deadline) if self._write(["(get-info :reason-unknown)"], deadline) else None
         if answer is not None:
             self.reason = "rounds" if "rounds" in answer else "incomplete"
         return answer is not None
@@ -74,20 +77,28 @@ class SolverProcess:
             self.kept[-1].append(text)
 
     def _start(self):
+        """Begins a run. Gives the commands that make what stands."""
         self.child = subprocess.Popen(self.words, stdin=subprocess.PIPE, stdout=subprocess.PIPE, bufsize=0)
-        self.unread = b""
-        for depth, commands in enumerate(self.kept):
-            self._write((["(push 1)"] if depth > 0 else []) + commands)
+        os.set_blocking(self.child.stdin.fileno(), False)
+        self.unread = self.unwritten = b""
+        pushed = [commands if depth == 0 else ["(push 1)", *commands] for depth, commands in enumerate(self.kept)]
+        return [text for commands in pushed for text in commands]
 
-    def _write(self, commands):
-        """Whether the run took all of it."""
-        rest = "".join(text + "\n" for text in commands).encode("latin-1")
-        try:
-            while rest:
-                rest = rest[self.child.stdin.write(rest):]
-        except BrokenPipeError:
-            self.reason = self._line(time.monotonic() + 1) or "the run ended"
-            return False
+    def _write(self, commands, deadline):
+        """Whether the run took all that was written by the deadline; what it did not take is kept for the next time."""
+        self.unwritten += "".join(text + "\n" for text in commands).encode("latin-1")
+        while self.unwritten:
+            left = None if deadline is None else max(0.0, deadline - time.monotonic())
+            if not select.select([], [self.child.stdin], [], left)[1]:
+                self.reason = "timeout"
+                return False
+            try:
+                taken = self.child.stdin.write(self.unwritten[:PIECE_BYTES])
+            except BrokenPipeError:
+                self.unwritten = b""
+                self.reason = self._line(time.monotonic() + 1) or "the run ended"
+                return False
+            self.unwritten = self.unwritten[taken or 0:]
         return True
 
     def _line(self, deadline):
@@ -97,7 +108,7 @@ class SolverProcess:
             if not select.select([self.child.stdout], [], [], left)[0]:
                 self.reason = "timeout"
                 return None
-            piece = os.read(self.child.stdout.fileno(), 1 << 16)
+            piece = os.read(self.child.stdout.fileno(), PIECE_BYTES)
             if not piece:
                 self.reason = "the run ended"
                 return None

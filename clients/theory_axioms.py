@@ -71,7 +71,7 @@ class TheoryAxioms:
             return []
         self.record.set("literals", symbol.result, standing + (symbol,))
         axioms = [self.maker.both([self._differ(new, self.maker.apply(other)) for other in standing])]
-        return axioms + self._neighbours(symbol.result, value)
+        return axioms + self._neighbours(symbol.result, value) + self._sum_with_zero(symbol.result)
 
     def _differ(self, left, right):
         return self.maker.negate(self.maker.equal(left, right))
@@ -112,7 +112,17 @@ class TheoryAxioms:
     def _sum(self, symbol):
         x, y = self._variables(*symbol.arguments)
         left, right = self.maker.apply(symbol, x, y), self.maker.apply(symbol, y, x)
-        return [self._forall([x, y], self.maker.equal(left, right), (left,))]
+        return [self._forall([x, y], self.maker.equal(left, right), (left,))] + self._sum_with_zero(symbol.result)
+
+    def _sum_with_zero(self, sort):
+        """A sum with 0 is the other term. It comes with the second of `+` and the numeral 0."""
+        names = self.record.table("symbol names")
+        plus, zero = [self.theories.symbols.get(key) for key in (("+", (sort, sort), sort), ("literal", sort, 0))]
+        if plus not in names or zero not in names or not self._once((plus, zero)):
+            return []
+        [x] = self._variables(sort)
+        total = self.maker.apply(plus, x, self.maker.apply(zero))
+        return [self._forall([x], self.maker.equal(total, x), (total,))]
 
     # Arrays
 

@@ -1,0 +1,12 @@
+; a name that a script declares is its own, though the tester of a constructor could be spelled like it
+(declare-sort U 0)
+(declare-fun is-red (U) Bool)
+(declare-datatypes ((C 0)) (((red) (blue (deep U)))))
+(declare-fun is-blue (U) Bool)
+(declare-const u U) (declare-const c C)
+(assert (is-red u)) (assert (is-blue u))
+(assert ((_ is red) c))
+(check-sat)
+(push 1) (assert (not (= c red))) (check-sat) (pop 1)
+(push 1) (assert (not (is-blue u))) (check-sat) (pop 1)
+(push 1) (assert (not (is-red u))) (check-sat) (pop 1)
