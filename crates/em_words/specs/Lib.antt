@@ -3,4 +3,3 @@ pub mod Texts
 pub mod Meaning
 pub mod ClapCommand
 pub mod Task
-pub mod Asked

@@ -1,7 +1,6 @@
 //! Reads the words of the command line.
 #![tactic(auto)]
 
-mod asked;
 mod fault;
 mod given;
 mod job;
@@ -10,7 +9,6 @@ mod number;
 mod task;
 mod words;
 
-pub use asked::{Asked, read_asked};
 pub use fault::WordsFault;
 pub use job::Job;
 pub use laws::hyphen_law;

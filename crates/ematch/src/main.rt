@@ -2,7 +2,7 @@
 #![tactic(auto)]
 
 use em_outside::{Limits, StdSink, StdSource};
-use ematch_cli::{Status, report, run};
+use ematch_cli::{Status, report, run_alone};
 use std::alloc::AllocError;
 use std::process::ExitCode;
 use std::rt::Env;
@@ -31,8 +31,7 @@ fn main(rt: HostRuntime) -> ExitCode {
     let mut err = StdSink::new(rt.stderr());
     let limits = Limits::standard();
     let status = match words(&rt) {
-        Ok(words) => run(
-            &rt,
+        Ok(words) => run_alone(
             rt.alloc(),
             words.as_slice(),
             &limits,

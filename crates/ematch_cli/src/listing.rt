@@ -12,7 +12,7 @@ use em_printing::{push_number, push_printed};
 use graph_meaning::ClassGraph;
 use graph_terms::{Memory, Numbers};
 use graph_trigger::Trigger;
-use match_graph::{Matchers, MatchingGraph};
+use match_graph::MatchingGraph;
 use smt_commands::Session;
 use std::alloc::{AllocError, Global};
 
@@ -113,9 +113,8 @@ fn push_trigger(
 }
 
 /// Writes the listings of all live triggers in order.
-fn push_triggers<M: Matchers>(
+fn push_triggers(
     alloc: Global,
-    matchers: &M,
     text: &mut Vec<u8>,
     session: &Session,
     graph: &MatchingGraph,
@@ -123,7 +122,7 @@ fn push_triggers<M: Matchers>(
     ensures { OnOk result (Puts (AreJoined (IsTriggerListing (names_of session.now) graph.now.standing) (triggers_of graph.now.standing)) text.old.items text.new.items) }
 {
     let _terms = graph.len();
-    let matches = matchers.all_matches(alloc, graph)?;
+    let matches = graph.all_matches(alloc)?;
     for n in 0..graph.triggers() {
         let tuples = matches[n as usize].as_slice();
         push_trigger(text, session, graph, n, tuples)?;
@@ -131,17 +130,16 @@ fn push_triggers<M: Matchers>(
     Ok(())
 }
 
-/// The listing at a check, of the matches that the matchers find.
-pub(crate) fn listing<M: Matchers>(
+/// The listing at a check.
+pub(crate) fn listing(
     alloc: Global,
-    matchers: &M,
     session: &Session,
     graph: &MatchingGraph,
 ) -> Result<Vec<u8>, Memory>
     ensures { IfOk result (λ text. IsListing (names_of session.now) graph.now.standing text.items) }
 {
     let mut text = Vec::new(alloc);
-    push_triggers(alloc, matchers, &mut text, session, graph)?;
+    push_triggers(alloc, &mut text, session, graph)?;
     text.extend_from_slice(b"settled\n")?;
     Ok(text)
 }

@@ -24,7 +24,6 @@ use formula_assert::AssertionStack;
 use formula_draft::Formula;
 use formula_table::EnterFault;
 use graph_terms::Memory;
-use match_graph::Matchers;
 use smt_commands::{Command, Session};
 use smt_names::Stop;
 use smt_text::Tree;
@@ -130,9 +129,8 @@ fn perform(
 }
 
 /// Searches what is asserted, with so many rounds at most, or gives the line that says that there is no room for an instance.
-fn search<M: Matchers>(
+fn search(
     alloc: Global,
-    matchers: &M,
     rounds: u32,
     stack: &mut AssertionStack,
     tree: &Tree,
@@ -142,7 +140,7 @@ fn search<M: Matchers>(
     ensures refused { IfErr result (IsUnsearched rounds stack.old tree.now) }
     ensures same { stack.new ≡ stack.old }
 {
-    match verdict(alloc, matchers, stack, rounds) {
+    match verdict(alloc, stack, rounds) {
         Ok(checked) => Ok(checked),
         Err(EnterFault::Memory) => Err(Unanswered::Memory),
         Err(fault) => {
@@ -153,9 +151,8 @@ fn search<M: Matchers>(
 }
 
 /// What answers a `check-sat`.
-fn check_response<M: Matchers>(
+fn check_response(
     alloc: Global,
-    matchers: &M,
     task: Task,
     session: &Session,
     stack: &mut AssertionStack,
@@ -168,17 +165,16 @@ fn check_response<M: Matchers>(
 {
     match task {
         Task::Matches => {
-            let text = listing(alloc, matchers, session, stack.graph())?;
+            let text = listing(alloc, session, stack.graph())?;
             Ok(Checked { text, why: None })
         }
-        Task::Solve { rounds } => search(alloc, matchers, rounds, stack, tree),
+        Task::Solve { rounds } => search(alloc, rounds, stack, tree),
     }
 }
 
 /// The text that answers a command that was done, where `prints` says whether success was printed before it.
-fn respond<M: Matchers>(
+fn respond(
     alloc: Global,
-    matchers: &M,
     task: Task,
     situation: &mut Situation,
     tree: &Tree,
@@ -194,7 +190,6 @@ fn respond<M: Matchers>(
         Command::CheckSat => {
             let checked = check_response(
                 alloc,
-                matchers,
                 task,
                 &situation.session,
                 &mut situation.stack,
@@ -247,9 +242,8 @@ fn unread(alloc: Global, stop: &Stop) -> Unanswered
 }
 
 /// Reads a command, does what it says, and gives what answers it.
-pub(crate) fn answer_command<M: Matchers>(
+pub(crate) fn answer_command(
     alloc: Global,
-    matchers: &M,
     task: Task,
     limits: &Limits,
     situation: &mut Situation,
@@ -268,7 +262,7 @@ pub(crate) fn answer_command<M: Matchers>(
         Ok(command) => match perform(alloc, limits, &mut situation.stack, tree, &command) {
             Err(unanswered) => Err(unanswered),
             Ok(()) => {
-                let text = respond(alloc, matchers, task, situation, tree, &command, prints)?;
+                let text = respond(alloc, task, situation, tree, &command, prints)?;
                 Ok(Reply {
                     text,
                     exits: is_exit(&command),

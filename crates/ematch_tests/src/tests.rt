@@ -9,4 +9,3 @@ mod plain;
 mod random;
 mod solve;
 mod texts;
-mod workers;
