@@ -50,3 +50,10 @@ puts_stop {b = b} {old = old} {new = new} {f0 = f0} {f1 = f1} {r = Err e} {stop 
   );
   cause = record { later = put.cause.later; quiet = tt; failed = put.cause.failed };
 })
+
+-- the bytes that were counted from none on are those that went out
+pub puts_front : {old new : Option (List ℕ)} {f0 f1 : ℕ} {stop : WriteStop} {text : List ℕ} → Puts 0 old new f0 f1 (Err stop) text
+    → (stop.gone ≤ length text) × Appended old new (take stop.gone text)
+puts_front {old = old} {new = new} {stop = stop} {text = text} put =
+    let same : put.front.0 ≡ stop.gone = omega (arith, put.front.1) in
+    (omega (arith, put.front.1, put.front.2), subst (λ n. Appended old new (take n text)) same put.front.3)

@@ -91,7 +91,7 @@ fn write_links<K: Sink>(sink: &mut K, gone: usize, count: u32) -> Result<usize, 
 /// Writes what stands before the first check.
 fn write_base<K: Sink>(sink: &mut K, count: u32) -> Result<usize, WriteStop>
     requires { count ≤ 4000 }
-    ensures puts { Puts 0 (K.written sink.old) (K.written sink.new) (K.fault_count sink.old) (K.fault_count sink.new) result (flat_map line opening ++ each_line declaration count ++ flat_map line foralls ++ each_line square count) }
+    ensures puts { Puts 0 (K.written sink.old) (K.written sink.new) (K.fault_count sink.old) (K.fault_count sink.new) result (flat_map line opening ++ (each_line declaration count ++ (flat_map line foralls ++ each_line square count))) }
     ensures within { IfOk result (λ end. end ≤ 1800000) }
 {
     let opened = put(
@@ -113,7 +113,7 @@ fn write_levels<K: Sink>(sink: &mut K, gone: usize, count: u32) -> Result<usize,
     requires small { gone ≤ 1900000 }
     requires some { 2 ≤ count }
     requires few { count ≤ 4000 }
-    ensures { Puts gone (K.written sink.old) (K.written sink.new) (K.fault_count sink.old) (K.fault_count sink.new) result (flat_map line deeper ++ each_line link (count - 1) ++ flat_map line deeper ++ line (union (count - 1) (count - 2)) ++ flat_map line closing) }
+    ensures { Puts gone (K.written sink.old) (K.written sink.new) (K.fault_count sink.old) (K.fault_count sink.new) result (flat_map line deeper ++ (each_line link (count - 1) ++ (flat_map line deeper ++ (line (union (count - 1) (count - 2)) ++ flat_map line closing)))) }
 {
     let first = put(sink, gone, b"(check-sat)\n(push 1)\n")?;
     let linked = write_links(sink, first, count - 1)?;

@@ -1,0 +1,30 @@
+use Rattle.std.proofs.Common.{◌≡◌, ◌+◌, ◌≤◌, ◌++◌, refl, sym, ap, ◌∙◌, arith}
+use Rattle.em_generated.proofs.PutsLaws.{puts_none, puts_then, puts_stop, puts_front}
+use Rattle.em_generated.proofs.Lines.{each_none, each_more, each_split, led, followed}
+use Rattle.em_generated.proofs.Pieces.{declaration_is, square_is, link_is, union_is, opening_is, foralls_is, deeper_is, closing_is, script_is}
+use Rattle.em_generated.specs.GeneratedScript.{line, declaration, square, link, script_text}
+use Rattle.em_generated.proofs.script.write_levels.Goals as goal
+
+pub returns-in_err-first : goal.returns-in_err-first
+returns-in_err-first g c = puts_stop _ _ c.in_err-first.ensures c.from_residual.ensures.1 (led _ deeper_is)
+
+pub returns-in_err-linked : goal.returns-in_err-linked
+returns-in_err-linked g c = puts_then _ c.in_ok-first.ensures
+    (puts_stop _ _ c.in_err-linked.ensures.puts c.from_residual-in_err-linked.ensures.1 refl) (led _ deeper_is)
+
+pub returns-in_err-second : goal.returns-in_err-second
+returns-in_err-second g c = puts_then _ c.in_ok-first.ensures
+    (puts_then _ c.in_ok-linked.ensures.puts
+    (puts_stop _ _ c.in_err-second.ensures c.from_residual-in_err-second.ensures.1 (led _ deeper_is)) refl) (led _ deeper_is)
+
+pub returns-in_err-joined : goal.returns-in_err-joined
+returns-in_err-joined g c = puts_then _ c.in_ok-first.ensures
+    (puts_then _ c.in_ok-linked.ensures.puts
+    (puts_then _ c.in_ok-second.ensures
+    (puts_stop _ _ c.in_err-joined.ensures.puts c.from_residual-in_err-joined.ensures.1 refl) (led _ deeper_is)) refl) (led _ deeper_is)
+
+pub returns : goal.returns
+returns g c = puts_then _ c.in_ok-first.ensures
+    (puts_then _ c.in_ok-linked.ensures.puts
+    (puts_then _ c.in_ok-second.ensures
+    (puts_then _ c.in_ok-joined.ensures.puts c.put-3.ensures (followed _ closing_is)) (led _ deeper_is)) refl) (led _ deeper_is)
