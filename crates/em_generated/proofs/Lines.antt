@@ -1,5 +1,5 @@
 -- The lines of the indices below a number.
-use Rattle.std.proofs.Common.{◌≡◌, ℕ, ◌+◌, ◌-◌, ◌≤◌, ◌<◌, List, [], ◌∷◌, ◌++◌, refl, ap, sym, ◌∙◌, arith, append_assoc, map, zero-add, add-zero, zero, suc}
+use Rattle.std.proofs.Common.{◌≡◌, ℕ, ◌+◌, ◌-◌, ◌<◌, List, [], ◌++◌, refl, ap, sym, ◌∙◌, arith, append_assoc, map, zero-add, add-zero, zero, suc}
 use Rattle.std.specs.List.{range_with_len, flat_map}
 use Rattle.std.proofs.lemmas.List.{append-nil}
 use Rattle.em_generated.specs.GeneratedScript.{line}
@@ -16,8 +16,8 @@ lines_add form a (suc m) k =
     let count : suc m + k ≡ suc (m + k) = omega arith in
     let place : a + 1 + m ≡ a + suc m = omega arith in
     ap (λ n. lines_from form a n) count ∙ (ap (λ t. line (form a) ++ t) (lines_add form (a + 1) m k)
-        ∙ (sym (append_assoc (line (form a)) (lines_from form (a + 1) m) (lines_from form (a + 1 + m) k))
-        ∙ ap (λ b. (line (form a) ++ lines_from form (a + 1) m) ++ lines_from form b k) place))
+    ∙ (sym (append_assoc (line (form a)) (lines_from form (a + 1) m) (lines_from form (a + 1 + m) k))
+    ∙ ap (λ b. (line (form a) ++ lines_from form (a + 1) m) ++ lines_from form b k) place))
 
 pub each_none : (form : ℕ → List ℕ) → each_line form 0 ≡ []
 unfolding each_line
@@ -37,8 +37,8 @@ each_split form n i low =
     let rest = n - (i + 1) in
     let count : n ≡ (i + 1) + rest = omega arith in
     ap (λ m. lines_from form 0 m) count ∙ (lines_add form 0 (i + 1) rest
-        ∙ (ap (λ t. t ++ lines_from form (0 + (i + 1)) rest) (each_more form i)
-        ∙ append_assoc (lines_from form 0 i) (line (form i)) (lines_from form (0 + (i + 1)) rest)))
+    ∙ (ap (λ t. t ++ lines_from form (0 + (i + 1)) rest) (each_more form i)
+    ∙ append_assoc (lines_from form 0 i) (line (form i)) (lines_from form (0 + (i + 1)) rest)))
 
 -- equal texts before one, and behind one
 pub led : {xs ys : List ℕ} (rest : List ℕ) → xs ≡ ys → xs ++ rest ≡ ys ++ rest

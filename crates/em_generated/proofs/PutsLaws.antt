@@ -1,10 +1,10 @@
 -- Texts that are put one after another.
-use Rattle.std.proofs.Common.{◌≡◌, ℕ, ◌+◌, ◌≤◌, ◌<◌, List, [], ◌++◌, length, take, Option, Result, Ok, Err, refl, ap, sym, subst, ◌∙◌, arith, append_assoc}
-use Rattle.std.proofs.lemmas.List.{append-nil, length-append, take-append-le}
+use Rattle.std.proofs.Common.{◌≡◌, ℕ, ◌+◌, ◌≤◌, List, [], ◌++◌, length, take, Option, Result, Ok, Err, refl, subst, ◌∙◌, arith}
+use Rattle.std.proofs.lemmas.List.{length-append, take-append-le}
 use Rattle.std.proofs.Math.Seq.{take-append-add}
 use Rattle.std.specs.Result.{IsErrAnd}
 use Rattle.em_outside.specs.Bytes.{Appended}
-use Rattle.em_outside.specs.Causes.{HasCause, Rose}
+use Rattle.em_outside.specs.Causes.{Rose}
 use Rattle.em_outside.proofs.BytesLaws.{Appended-none, Appended-then}
 use Rattle.em_outside.specs.declared.writing.WriteStop.{WriteStop}
 use Rattle.em_generated.specs.Putting.{Puts}

@@ -1,8 +1,8 @@
-use Rattle.std.proofs.Common.{◌≡◌, ◌+◌, ◌≤◌, ◌++◌, refl, sym, ap, ◌∙◌, arith}
-use Rattle.em_generated.proofs.PutsLaws.{puts_none, puts_then, puts_stop, puts_front}
+use Rattle.std.proofs.Common.{◌∙◌, arith}
+use Rattle.em_generated.proofs.PutsLaws.{puts_none, puts_then, puts_stop}
 use Rattle.em_generated.proofs.Lines.{each_none, each_more, each_split, led, followed}
-use Rattle.em_generated.proofs.Pieces.{declaration_is, square_is, link_is, union_is, opening_is, foralls_is, deeper_is, closing_is, script_is}
-use Rattle.em_generated.specs.GeneratedScript.{line, declaration, square, link, script_text}
+use Rattle.em_generated.proofs.Pieces.{declaration_is}
+use Rattle.em_generated.specs.GeneratedScript.{declaration}
 use Rattle.em_generated.specs.Putting.{each_line}
 use Rattle.em_generated.proofs.script.write_declarations.Goals as goal
 

@@ -1,9 +1,7 @@
-use Rattle.std.proofs.Common.{◌≡◌, ◌+◌, ◌≤◌, ◌++◌, refl, sym, ap, ◌∙◌, arith}
-use Rattle.em_generated.proofs.PutsLaws.{puts_none, puts_then, puts_stop, puts_front}
-use Rattle.em_generated.proofs.Lines.{each_none, each_more, each_split, led, followed}
-use Rattle.em_generated.proofs.Pieces.{declaration_is, square_is, link_is, union_is, opening_is, foralls_is, deeper_is, closing_is, script_is}
-use Rattle.em_generated.specs.GeneratedScript.{line, declaration, square, link, script_text}
-use Rattle.em_generated.specs.Putting.{each_line}
+use Rattle.std.proofs.Common.{refl, arith}
+use Rattle.em_generated.proofs.PutsLaws.{puts_none, puts_then, puts_stop}
+use Rattle.em_generated.proofs.Lines.{each_none, each_more, each_split}
+use Rattle.em_generated.specs.GeneratedScript.{square}
 use Rattle.em_generated.proofs.script.write_squares.Goals as goal
 
 pub loop-index-init : goal.loop-index-init
