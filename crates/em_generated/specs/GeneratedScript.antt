@@ -27,7 +27,8 @@ foralls = codes "(assert (forall ((x U) (y U)) (! (= (g x (f y)) x) :pattern ((g
 
 -- g of a constant and itself is f of it
 unfoldable pub square : ℕ → List ℕ
-square i = codes "(assert (= (g " ++ constant i ++ codes " " ++ constant i ++ codes ") (f " ++ constant i ++ codes ")))"
+square i = codes "(assert (= (g " ++ constant i ++ codes " " ++ constant i
+    ++ codes ") (f " ++ constant i ++ codes ")))"
 
 -- a constant is f of the next one
 unfoldable pub link : ℕ → List ℕ

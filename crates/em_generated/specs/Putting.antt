@@ -11,7 +11,8 @@ use Rattle.em_outside.specs.declared.writing.WriteStop.{WriteStop}
 pub record Puts (before : ℕ) (old new : Option (List ℕ)) (faults_before faults_now : ℕ) (result : Result ℕ WriteStop)
     (text : List ℕ) : Type 0 where
   pub whole : IfOk result (λ end. (end ≡ before + length text) × Appended old new text)
-  pub front : IfErr result (λ stop. (n : ℕ) × (stop.gone ≡ before + n) × (n ≤ length text) × Appended old new (take n text))
+  pub front : IfErr result (λ stop. (n : ℕ)
+      × (stop.gone ≡ before + n) × (n ≤ length text) × Appended old new (take n text))
   pub cause : HasCause faults_before faults_now result
 
 -- the line of each index below a number
