@@ -1,0 +1,3 @@
+mod PutsLaws
+mod Pieces
+mod Lines
