@@ -1,6 +1,8 @@
 //! The top call of the program: a script is read and answered, command by command.
 #![tactic(auto)]
 
+mod count;
+mod counting;
 mod error_line;
 mod laws;
 mod listing;

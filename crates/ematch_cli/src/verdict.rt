@@ -8,6 +8,7 @@ ghost use Rattle.ematch_cli.specs.Reply.{outcome_line, outcome_why};
 
 use formula_assert::AssertionStack;
 use formula_table::EnterFault;
+use match_graph::Alone;
 use search_check::{Outcome, Why, check};
 use std::alloc::{AllocError, Global};
 
@@ -53,7 +54,7 @@ pub(crate) fn verdict(
     ensures limit { IfErr result (IsPastLimit rounds stack.old.formulas (held_of stack.old)) }
     ensures same { stack.new ≡ stack.old }
 {
-    let outcome = check(alloc, stack, rounds)?;
+    let outcome = check(alloc, &Alone, stack, rounds)?;
     let why = outcome_why(&outcome);
     match Vec::from_slice(alloc, outcome_line(&outcome)) {
         Ok(text) => Ok(Checked { text, why }),
