@@ -3,3 +3,4 @@ pub mod Texts
 pub mod Meaning
 pub mod ClapCommand
 pub mod Task
+pub mod Asked

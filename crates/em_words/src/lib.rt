@@ -1,6 +1,7 @@
 //! Reads the words of the command line.
 #![tactic(auto)]
 
+mod asked;
 mod fault;
 mod given;
 mod job;
@@ -9,6 +10,7 @@ mod number;
 mod task;
 mod words;
 
+pub use asked::{Asked, read_asked};
 pub use fault::WordsFault;
 pub use job::Job;
 pub use laws::hyphen_law;

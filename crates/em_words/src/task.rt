@@ -15,7 +15,7 @@ pub enum Task {
 }
 
 /// The task of a job with so many rounds, where it is built.
-fn task_of(job: Job, rounds: u32) -> Option<Task>
+pub(crate) fn task_of(job: Job, rounds: u32) -> Option<Task>
     ensures { result ≡ task_of job rounds }
 {
     match job {

@@ -134,3 +134,27 @@ fn no_words_are_refused(rt: HostRuntime) -> Result<(), Fail> {
     );
     Ok(())
 }
+
+/// What the program is asked by the words of a line: the task and the workers.
+fn asked(alloc: Global, line: &str) -> Result<Option<Asked>, AllocError> {
+    let words = words(alloc, line)?;
+    read_asked(alloc, words.as_slice())
+}
+
+#[test]
+fn words_ask_for_a_task_and_workers(rt: HostRuntime) -> Result<(), Fail> {
+    let alloc = rt.alloc();
+    let matches = Asked {
+        task: Task::Matches,
+        workers: 64,
+    };
+    let solve = Asked {
+        task: Task::Solve { rounds: 7 },
+        workers: 0,
+    };
+    assert_eq!(rt; asked(alloc, "--workers|64|matches")?, Some(matches));
+    assert_eq!(rt; asked(alloc, "solve|--rounds=7")?, Some(solve));
+    assert_eq!(rt; asked(alloc, "--workers=65|matches")?, None);
+    assert_eq!(rt; asked(alloc, "make|5")?, None);
+    Ok(())
+}
