@@ -2,7 +2,7 @@
 #![tactic(auto)]
 
 use em_outside::{Limits, StdSink, StdSource};
-use ematch_cli::{Status, report, run_alone};
+use ematch_cli::{Status, report, run};
 use std::alloc::AllocError;
 use std::process::ExitCode;
 use std::rt::Env;
@@ -31,7 +31,8 @@ fn main(rt: HostRuntime) -> ExitCode {
     let mut err = StdSink::new(rt.stderr());
     let limits = Limits::standard();
     let status = match words(&rt) {
-        Ok(words) => run_alone(
+        Ok(words) => run(
+            &rt,
             rt.alloc(),
             words.as_slice(),
             &limits,

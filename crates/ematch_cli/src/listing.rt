@@ -12,7 +12,7 @@ use em_printing::{push_number, push_printed};
 use graph_meaning::ClassGraph;
 use graph_terms::{Memory, Numbers};
 use graph_trigger::Trigger;
-use match_graph::MatchingGraph;
+use match_graph::{Matchers, MatchingGraph};
 use smt_commands::Session;
 use std::alloc::{AllocError, Global};
 
@@ -113,8 +113,9 @@ fn push_trigger(
 }
 
 /// Writes the listings of all live triggers in order.
-fn push_triggers(
+fn push_triggers<M: Matchers>(
     alloc: Global,
+    matchers: &M,
     text: &mut Vec<u8>,
     session: &Session,
     graph: &MatchingGraph,
@@ -122,7 +123,7 @@ fn push_triggers(
     ensures { OnOk result (Puts (AreJoined (IsTriggerListing (names_of session.now) graph.now.standing) (triggers_of graph.now.standing)) text.old.items text.new.items) }
 {
     let _terms = graph.len();
-    let matches = graph.all_matches(alloc)?;
+    let matches = matchers.all_matches(alloc, graph)?;
     for n in 0..graph.triggers() {
         let tuples = matches[n as usize].as_slice();
         push_trigger(text, session, graph, n, tuples)?;
@@ -130,16 +131,17 @@ fn push_triggers(
     Ok(())
 }
 
-/// The listing at a check.
-pub(crate) fn listing(
+/// The listing at a check, of the matches that the matchers find.
+pub(crate) fn listing<M: Matchers>(
     alloc: Global,
+    matchers: &M,
     session: &Session,
     graph: &MatchingGraph,
 ) -> Result<Vec<u8>, Memory>
     ensures { IfOk result (λ text. IsListing (names_of session.now) graph.now.standing text.items) }
 {
     let mut text = Vec::new(alloc);
-    push_triggers(alloc, &mut text, session, graph)?;
+    push_triggers(alloc, matchers, &mut text, session, graph)?;
     text.extend_from_slice(b"settled\n")?;
     Ok(text)
 }

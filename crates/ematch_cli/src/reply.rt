@@ -24,6 +24,7 @@ use formula_assert::AssertionStack;
 use formula_draft::Formula;
 use formula_table::EnterFault;
 use graph_terms::Memory;
+use match_graph::Matchers;
 use smt_commands::{Command, Session};
 use smt_names::Stop;
 use smt_text::Tree;
@@ -129,8 +130,9 @@ fn perform(
 }
 
 /// Searches what is asserted, with so many rounds at most, or gives the line that says that there is no room for an instance.
-fn search(
+fn search<M: Matchers>(
     alloc: Global,
+    matchers: &M,
     rounds: u32,
     stack: &mut AssertionStack,
     tree: &Tree,
@@ -140,7 +142,7 @@ fn search(
     ensures refused { IfErr result (IsUnsearched rounds stack.old tree.now) }
     ensures same { stack.new ≡ stack.old }
 {
-    match verdict(alloc, stack, rounds) {
+    match verdict(alloc, matchers, stack, rounds) {
         Ok(checked) => Ok(checked),
         Err(EnterFault::Memory) => Err(Unanswered::Memory),
         Err(fault) => {
@@ -151,8 +153,9 @@ fn search(
 }
 
 /// What answers a `check-sat`.
-fn check_response(
+fn check_response<M: Matchers>(
     alloc: Global,
+    matchers: &M,
     task: Task,
     session: &Session,
     stack: &mut AssertionStack,
@@ -165,16 +168,17 @@ fn check_response(
 {
     match task {
         Task::Matches => {
-            let text = listing(alloc, session, stack.graph())?;
+            let text = listing(alloc, matchers, session, stack.graph())?;
             Ok(Checked { text, why: None })
         }
-        Task::Solve { rounds } => search(alloc, rounds, stack, tree),
+        Task::Solve { rounds } => search(alloc, matchers, rounds, stack, tree),
     }
 }
 
 /// The text that answers a command that was done, where `prints` says whether success was printed before it.
-fn respond(
+fn respond<M: Matchers>(
     alloc: Global,
+    matchers: &M,
     task: Task,
     situation: &mut Situation,
     tree: &Tree,
@@ -190,6 +194,7 @@ fn respond(
         Command::CheckSat => {
             let checked = check_response(
                 alloc,
+                matchers,
                 task,
                 &situation.session,
                 &mut situation.stack,
@@ -242,8 +247,9 @@ fn unread(alloc: Global, stop: &Stop) -> Unanswered
 }
 
 /// Reads a command, does what it says, and gives what answers it.
-pub(crate) fn answer_command(
+pub(crate) fn answer_command<M: Matchers>(
     alloc: Global,
+    matchers: &M,
     task: Task,
     limits: &Limits,
     situation: &mut Situation,
@@ -262,7 +268,7 @@ pub(crate) fn answer_command(
         Ok(command) => match perform(alloc, limits, &mut situation.stack, tree, &command) {
             Err(unanswered) => Err(unanswered),
             Ok(()) => {
-                let text = respond(alloc, task, situation, tree, &command, prints)?;
+                let text = respond(alloc, matchers, task, situation, tree, &command, prints)?;
                 Ok(Reply {
                     text,
                     exits: is_exit(&command),

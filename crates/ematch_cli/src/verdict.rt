@@ -8,7 +8,7 @@ ghost use Rattle.ematch_cli.specs.Reply.{outcome_line, outcome_why};
 
 use formula_assert::AssertionStack;
 use formula_table::EnterFault;
-use match_graph::Alone;
+use match_graph::Matchers;
 use search_check::{Outcome, Why, check};
 use std::alloc::{AllocError, Global};
 
@@ -44,8 +44,9 @@ fn outcome_why(outcome: &Outcome) -> Option<Why>
 /// open. The assertions are as before.
 ///
 /// It fails as the search does, and for want of memory.
-pub(crate) fn verdict(
+pub(crate) fn verdict<M: Matchers>(
     alloc: Global,
+    matchers: &M,
     stack: &mut AssertionStack,
     rounds: u32,
 ) -> Result<Checked, EnterFault>
@@ -54,7 +55,7 @@ pub(crate) fn verdict(
     ensures limit { IfErr result (IsPastLimit rounds stack.old.formulas (held_of stack.old)) }
     ensures same { stack.new ≡ stack.old }
 {
-    let outcome = check(alloc, &Alone, stack, rounds)?;
+    let outcome = check(alloc, matchers, stack, rounds)?;
     let why = outcome_why(&outcome);
     match Vec::from_slice(alloc, outcome_line(&outcome)) {
         Ok(text) => Ok(Checked { text, why }),

@@ -9,3 +9,4 @@ mod plain;
 mod random;
 mod solve;
 mod texts;
+mod workers;

@@ -9,10 +9,10 @@ use Rattle.ematch_cli.proofs.Texts.{under_way_none, under_way_more, under_way_al
 use Rattle.ematch_cli.proofs.listing.push_triggers.Goals as goal
 
 pub loop-n-init : goal.loop-n-init
-loop-n-init c = under_way_none (IsTriggerListing (names_of c.args.session.now) c.args.graph.now.standing) (triggers_of c.args.graph.now.standing) c.args.text.now.items
+loop-n-init g c = under_way_none (IsTriggerListing (names_of c.args.session.now) c.args.graph.now.standing) (triggers_of c.args.graph.now.standing) c.args.text.now.items
 
 pub push_trigger-requires-clause-matches : goal.push_trigger-requires-clause-matches
-push_trigger-requires-clause-matches c =
+push_trigger-requires-clause-matches g c =
     let standing = c.args.graph.now.standing in
     let lists = c.in_ok-matches.matches.items in
     let n = c.loop-n.n in
@@ -22,12 +22,12 @@ push_trigger-requires-clause-matches c =
     λ trigger has. subst (AreMatches standing trigger) (sym c.as_slice-tuples.ensures) (all.are n trigger c.index.result.now has list)
 
 pub loop-n-preserved : goal.loop-n-preserved
-loop-n-preserved c =
+loop-n-preserved g c =
     let text = c.in_ok-push_trigger.ensures in
     under_way_more (IsTriggerListing (names_of c.args.session.now) c.args.graph.now.standing) (triggers_of c.args.graph.now.standing) c.args.text.now.items
     c.loop-n.n c.loop-n.text.items c.push_trigger.new.text.items text.1.0 text.1.1 (text.0, text.1.2, text.2) c.loop-n.invariant
 
 pub returns : goal.returns
-returns c =
+returns g c =
     under_way_all (IsTriggerListing (names_of c.args.session.now) c.args.graph.now.standing) (triggers_of c.args.graph.now.standing) c.args.text.now.items
     c.loop-n.n c.loop-n.text.items (omega (arith, c.triggers-n-end.ensures, c.loop-n-test.false)) c.loop-n.invariant

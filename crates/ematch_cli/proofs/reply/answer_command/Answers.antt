@@ -10,24 +10,24 @@ use Rattle.ematch_cli.proofs.OneAnswer.{does_exact}
 use Rattle.ematch_cli.proofs.reply.answer_command.Goals as goal
 
 pub returns-in-Err-clause-refused : goal.returns-in-Err-clause-refused
-returns-in-Err-clause-refused c =
+returns-in-Err-clause-refused g c =
     subst (λ (before : RunState). IsUnanswered c.args.task before c.args.tree.now c.unread.result) c.situation.view_is
     (unread c.args.task (run_state c.situation.inside.session c.situation.inside.stack c.situation.inside.why) c.args.tree.now c.in-Err.stop c.unread.result c.in-Err.ensures.answer c.unread.ensures)
 
 pub returns-in-Err-perform-clause-refused : goal.returns-in-Err-perform-clause-refused
-returns-in-Err-perform-clause-refused c =
+returns-in-Err-perform-clause-refused g c =
     subst (λ (before : RunState). IsUnanswered c.args.task before c.args.tree.now c.in-Err-perform.unanswered) c.situation.view_is
     (undone c.args.task (run_state c.situation.inside.session c.situation.inside.stack c.situation.inside.why) c.args.tree.now c.in-Ok.command c.command.new.self c.in-Err-perform.unanswered c.in-Ok.ensures.answer c.in-Err-perform.ensures.refused)
 
 pub respond-requires : goal.respond-requires
-respond-requires c =
+respond-requires g c =
     let before = c.situation.inside.stack in
     let tables : AreTables before = subst (λ (now : RunState). AreTables now.assertions) (sym c.situation.view_is) c.requires.tables in
     let exact : AreExact before = subst (λ (now : RunState). AreExact now.assertions) (sym c.situation.view_is) c.requires.exact in
     (does_exact c.args.limits.now c.run_law.ensures.exact c.in-Ok.command before c.perform.new.stack tables exact c.in-Ok-perform.ensures.ok).present
 
 pub returns-in_err-text-in-Ok-perform-clause-refused : goal.returns-in_err-text-in-Ok-perform-clause-refused
-returns-in_err-text-in-Ok-perform-clause-refused c =
+returns-in_err-text-in-Ok-perform-clause-refused g c =
     let stopped = c.in_err-text-in-Ok-perform.field-0.0 in
     let p = err_from_is_err_and c.from_residual.result c.from_residual.ensures.1 in
     rw (p.1, p.2)
@@ -36,7 +36,7 @@ returns-in_err-text-in-Ok-perform-clause-refused c =
     c.in-Ok.ensures.answer c.in-Ok-perform.ensures.ok c.in_err-text-in-Ok-perform.ensures.refused))
 
 pub returns-clause-ok : goal.returns-clause-ok
-returns-clause-ok c =
+returns-clause-ok g c =
     let text = c.in_ok-text-in-Ok-perform.text.items in
     let between = run_state c.command.new.self c.perform.new.stack c.situation.inside.why in
     record {

@@ -6,7 +6,7 @@ use Rattle.em_words.specs.Task.{task_asked}
 use Rattle.ematch_cli.specs.declared.status.Status.TheVariants.{NoMemory}
 use Rattle.em_words.specs.declared.task.Task.{Task}
 use Rattle.ematch_cli.proofs.Exits.{nothing_read}
-use Rattle.ematch_cli.proofs.run.run_words.Goals as goal
+use Rattle.ematch_cli.proofs.alone.run_words.Goals as goal
 
 -- whatever is asked, nothing was read
 whatever_asked : (asked : Option Task) (limits : Limits) (input out : Option (List ℕ)) → IfSome asked (λ task. Answers task limits input input out out NoMemory)

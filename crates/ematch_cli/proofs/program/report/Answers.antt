@@ -1,6 +1,6 @@
 use Rattle.std.proofs.Common.{take, drop, sym, ◌∙◌, inr}
 use Rattle.std.proofs.lemmas.List.{take-append-drop}
-use Rattle.ematch_cli.proofs.run.report.Goals as goal
+use Rattle.ematch_cli.proofs.program.report.Goals as goal
 
 pub returns-in-Err : goal.returns-in-Err
 returns-in-Err g c =
