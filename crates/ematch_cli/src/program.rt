@@ -43,8 +43,8 @@ fn run_asked<R: Threads + Sync, I: Source, O: Sink>(
     }
 }
 
-/// Reads the script on the input, writes its answer to the output, and says on `err` what went wrong outside. As many workers
-/// as the words say find the matches, each in a thread of its own.
+/// Reads the script on the input, writes its answer to the output, and says on `err` what went wrong outside. As many
+/// workers as the words say find the matches, each in a thread of its own.
 ///
 /// The answer is defined by the task, the limits and the script alone: nothing in it speaks of workers, so for every number
 /// of them the bytes are the same.
