@@ -4,6 +4,7 @@ use formula_assert::AssertionStack;
 use formula_assert::laws::{exactly_law, tables_law};
 use formula_draft::Formula;
 use formula_table::EnterFault;
+use match_graph::Alone;
 use search_check::{Outcome, Why, check};
 use smt_commands::{Command, Session};
 use smt_text::TreeReader;
@@ -39,7 +40,7 @@ fn outcome_of(alloc: Global, formulas: &[Formula]) -> Result<Outcome, EnterFault
         let _formula = formula.root();
         stack.assert(formula)?;
     }
-    check(alloc, &mut stack, 4)
+    check(alloc, &Alone, &mut stack, 4)
 }
 
 #[test]
