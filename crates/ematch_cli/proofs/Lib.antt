@@ -8,3 +8,4 @@ pub mod Exits
 pub mod Steps
 pub mod Answering
 pub mod RefutedLaws
+pub mod Counted

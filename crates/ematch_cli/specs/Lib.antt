@@ -12,3 +12,4 @@ pub mod Reply
 pub mod RunLaws
 pub mod Refuted
 pub mod Satisfied
+pub mod Counting

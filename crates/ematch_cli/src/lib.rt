@@ -2,6 +2,8 @@
 #![tactic(auto)]
 
 mod alone;
+mod count;
+mod counting;
 mod error_line;
 mod laws;
 mod listing;
