@@ -13,3 +13,5 @@ pub mod RunLaws
 pub mod Refuted
 pub mod Satisfied
 pub mod Counting
+pub mod Generated
+pub mod Leaves
