@@ -9,4 +9,4 @@ pub mod Steps
 pub mod Answering
 pub mod RefutedLaws
 pub mod Counted
-pub mod Drilled
+pub mod Leaving
