@@ -1,5 +1,5 @@
 -- What a run leaves of its work.
-use Rattle.std.proofs.Common.{◌≡◌, ◌≢◌, inl, inr, ℕ, List, [], ◌++◌, refl, Option, Some, None, IfSome, subst}
+use Rattle.std.proofs.Common.{◌≢◌, inl, inr, ℕ, List, [], ◌++◌, refl, Option, Some, None, IfSome, subst}
 use Rattle.em_outside.specs.Bytes.{Appended}
 use Rattle.em_outside.proofs.BytesLaws.{Appended-none, Appended-then}
 use Rattle.em_outside.specs.declared.limits.Limits.{Limits}
