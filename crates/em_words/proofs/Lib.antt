@@ -4,4 +4,4 @@ pub mod Rows
 pub mod Turns
 pub mod Walks
 pub mod Numerals
-pub mod Few
+pub mod Bounds

@@ -2,5 +2,5 @@ pub mod Number
 pub mod Texts
 pub mod Meaning
 pub mod ClapCommand
-pub mod Task
+pub mod Work
 pub mod Asked

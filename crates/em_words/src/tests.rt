@@ -135,26 +135,46 @@ fn no_words_are_refused(rt: HostRuntime) -> Result<(), Fail> {
     Ok(())
 }
 
-/// What the program is asked by the words of a line: the task and the workers.
+/// What the program is asked by the words of a line.
 fn asked(alloc: Global, line: &str) -> Result<Option<Asked>, AllocError> {
     let words = words(alloc, line)?;
     read_asked(alloc, words.as_slice())
 }
 
 #[test]
-fn words_ask_for_a_task_and_workers(rt: HostRuntime) -> Result<(), Fail> {
+fn words_ask_for_a_work_and_workers(rt: HostRuntime) -> Result<(), Fail> {
     let alloc = rt.alloc();
     let matches = Asked {
-        task: Task::Matches,
+        work: Work::Answer {
+            task: Task::Matches,
+        },
         workers: 64,
     };
     let solve = Asked {
-        task: Task::Solve { rounds: 7 },
+        work: Work::Answer {
+            task: Task::Solve { rounds: 7 },
+        },
         workers: 0,
+    };
+    let drill = Asked {
+        work: Work::Drill { count: 4000 },
+        workers: 3,
     };
     assert_eq!(rt; asked(alloc, "--workers|64|matches")?, Some(matches));
     assert_eq!(rt; asked(alloc, "solve|--rounds=7")?, Some(solve));
+    assert_eq!(rt; asked(alloc, "drill|4000|--workers=3")?, Some(drill));
     assert_eq!(rt; asked(alloc, "--workers=65|matches")?, None);
-    assert_eq!(rt; asked(alloc, "make|5")?, None);
+    assert_eq!(rt; asked(alloc, "make|1")?, None);
+    Ok(())
+}
+
+#[test]
+fn work_for_no_workers(rt: HostRuntime) -> Result<(), Fail> {
+    let alloc = rt.alloc();
+    let line = words(alloc, "make|2")?;
+    let made = Some(Work::Make { count: 2 });
+    assert_eq!(rt; read_work(alloc, line.as_slice())?, made);
+    let shared = words(alloc, "--workers=1|make|2")?;
+    assert_eq!(rt; read_work(alloc, shared.as_slice())?, None);
     Ok(())
 }

@@ -193,7 +193,7 @@ back (Stray place) = refl
 back (TooDeep place) = refl
 back (TooLong place) = refl
 
-same_byte : (f : TextFault) (b byte : ByteFault) → f ≡ text_fault b → in_bytes f ≡ Some byte → b ≡ byte
+pub same_byte : (f : TextFault) (b byte : ByteFault) → f ≡ text_fault b → in_bytes f ≡ Some byte → b ≡ byte
 same_byte f b byte same has = let both : Some b ≡ Some byte = sym (back b) ∙ ap in_bytes (sym same) ∙ has in cc
 
 -- what a run answers after a call of its reader

@@ -8,3 +8,5 @@ pub mod Exits
 pub mod Steps
 pub mod Answering
 pub mod RefutedLaws
+pub mod Counted
+pub mod Leaving

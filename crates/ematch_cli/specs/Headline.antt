@@ -16,6 +16,16 @@ use Rattle.em_words.specs.declared.task.Task.{Task}
 abbrev pub Wrote : Option (List ℕ) → Option (List ℕ) → (Answer → Type 0) → Ending → Type 0
 Wrote old new IsIt ending = (answer : Answer) × IsIt answer × (answer.ending ≡ ending) × Appended old new answer.bytes
 
+-- What stands on the output where nothing is read, by the status: the whole answer, which ends as the status says, or
+-- one of its fronts.
+abbrev pub StandsOf : (Answer → Type 0) → (List ℕ → Type 0) → Option (List ℕ) → Option (List ℕ) → Status → Type 0
+StandsOf IsIt IsFront old new Done = Wrote old new IsIt Finished
+StandsOf IsIt IsFront old new ScriptError = Wrote old new IsIt Failed
+StandsOf IsIt IsFront old new WriteFault = (front : List ℕ) × IsFront front × Appended old new front
+StandsOf IsIt IsFront old new NoMemory = (front : List ℕ) × IsFront front × Appended old new front
+StandsOf IsIt IsFront old new ReadFault = ⊥
+StandsOf IsIt IsFront old new WordsRefused = ⊥
+
 -- a sink gained a front of these bytes
 abbrev pub WroteFront : Option (List ℕ) → Option (List ℕ) → List ℕ → Type 0
 WroteFront old new bytes = (front : List ℕ) × BeginsWith front bytes × Appended old new front

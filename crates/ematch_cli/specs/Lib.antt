@@ -12,3 +12,6 @@ pub mod Reply
 pub mod RunLaws
 pub mod Refuted
 pub mod Satisfied
+pub mod Counting
+pub mod Generated
+pub mod Leaves

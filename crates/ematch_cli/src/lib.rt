@@ -1,8 +1,11 @@
-//! The top call of the program: a script is read and answered, command by command.
+//! The top call of the program: a script is read and answered, command by command, or the generated script of a size is written or its matches are counted.
 #![tactic(auto)]
 
 mod alone;
+mod count;
+mod counting;
 mod error_line;
+mod generated;
 mod laws;
 mod listing;
 mod program;
@@ -13,6 +16,7 @@ mod situation;
 mod status;
 mod unanswered;
 mod verdict;
+mod work;
 
 pub use alone::run_alone;
 pub use laws::{front_law, one_answer, sat_is_right, unsat_is_right};

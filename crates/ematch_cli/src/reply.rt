@@ -96,7 +96,7 @@ fn assert_formula(
 }
 
 /// Does what a command says to the standing assertions.
-fn perform(
+pub(crate) fn perform(
     alloc: Global,
     limits: &Limits,
     stack: &mut AssertionStack,
@@ -234,7 +234,7 @@ fn is_exit(command: &Command) -> bool
 }
 
 /// Why a command is not done that is refused where it is read.
-fn unread(alloc: Global, stop: &Stop) -> Unanswered
+pub(crate) fn unread(alloc: Global, stop: &Stop) -> Unanswered
     ensures { IsUnread stop.now result }
 {
     match stop {

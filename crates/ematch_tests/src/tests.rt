@@ -4,6 +4,7 @@ mod errors;
 mod faults;
 mod fixture;
 mod foralls;
+mod generated;
 mod library;
 mod plain;
 mod random;

@@ -1,4 +1,4 @@
-//! Tests of truth values and of the sets that a search keeps.
+//! Tests of truth values, of the sets that a search keeps, and of the search of formulas.
 #![tactic(auto)]
 
 #[cfg(test)]

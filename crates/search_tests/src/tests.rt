@@ -1,3 +1,4 @@
-//! Truth values, and sets of numbers.
+//! Truth values, sets of numbers, and the search of formulas.
+mod library;
 mod set;
 mod truths;

@@ -112,7 +112,8 @@ const WORDS: &[&[&str]] = &[
     &[],
     &["--workers", "1", "matches"],
     &["--workers", "1", "solve"],
-    &["make", "2"],
+    &["make", "1"],
+    &["--workers", "1", "make", "2"],
 ];
 
 #[test]

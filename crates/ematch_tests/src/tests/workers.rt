@@ -28,7 +28,7 @@ const VERDICTS: &[(&str, &str)] = &[
 ];
 
 /// The status of a script under these words, and what was written.
-fn answer_by<R: Threads + Sync>(
+pub(super) fn answer_by<R: Threads + Sync>(
     rt: &R,
     alloc: Global,
     words: &[&str],
