@@ -142,6 +142,8 @@ class TermReader:
         if head in ("true", "false") or len(parts) < least or head == "not" and len(parts) > 1:
             raise LeftOut(f"a wrong number of arguments of {head}")
         if head == "not":
+            # below two negations no forall is taken, though it is read here
+            self.is_plain = self.is_plain and parts[0].op != "not"
             return self.maker.negate(parts[0])
         if head == "xor":
             formula = parts[0]
