@@ -1,7 +1,7 @@
 #!/usr/bin/env python3
 """How time and memory of the program grow with a script.
 
-    bench/bench.py PROGRAM [--n N] [--only WORD] [--seconds S]
+    bench/bench.py PROGRAM [--n N] [--only WORD] [--seconds S] [--workers W]
 
 PROGRAM is the built program `ematch`. Each kind of script is made for n, 2n and 4n, and given to `PROGRAM matches` on
 standard input, or to `PROGRAM --rounds 1000 solve` where it asks for verdicts. A line for each run gives the seconds
@@ -10,6 +10,7 @@ kind it gave, and how many times longer it took than the run before: about 2 whe
 grows with the square of n. Where `z3` or `cvc5` are installed (`apt-get install z3 cvc5`), they are given
 the same script, and their seconds stand last, with how many times the faster one's the program took; they instantiate the
 foralls and list nothing, and where a verdict of theirs is another, the line says so and does not count that peer. The script judges nothing else.
+With --workers W the program's matches are found by W threads.
 """
 
 import argparse
@@ -121,6 +122,27 @@ def joins(n):
         for k in range(0, n - level, level):
             script.equal(f"(f c{k})", f"c{k + level // 2}")
         script.check()
+    script.add("(pop 1)")
+    script.check()
+    script.add("(pop 1)")
+    return script.check()
+
+
+def generated(n):
+    """The script that `PROGRAM make N` writes."""
+    script = Script([("f", 1), ("g", 2)], constants("c", n))
+    script.add("(assert (forall ((x U) (y U)) (! (= (g x (f y)) x) :pattern ((g x (f y))))))")
+    script.add("(assert (forall ((x U)) (! (= (f x) x) :pattern ((f x) (g x x)))))")
+    for k in range(n):
+        script.equal(f"(g c{k} c{k})", f"(f c{k})")
+    script.check()
+    script.add("(push 1)")
+    for k in range(n - 1):
+        script.equal(f"c{k}", f"(f c{k + 1})")
+    script.check()
+    script.add("(push 1)")
+    script.equal(f"c{n - 1}", f"c{n - 2}")
+    script.check()
     script.add("(pop 1)")
     script.check()
     script.add("(pop 1)")
@@ -296,6 +318,7 @@ KINDS = [
     ("heap", "matches", heap),
     ("fronts", "matches", fronts),
     ("joins", "matches", joins),
+    ("generated", "matches", generated),
     ("chain", "matches", chain),
     ("towers", "matches", towers),
     ("large class", "matches", large_class),
@@ -367,11 +390,11 @@ def summary(task, matches, verdicts):
     return f"{verdicts.count('sat'):>5} sat {verdicts.count('unsat'):>5} unsat {verdicts.count('unknown'):>5} unknown"
 
 
-def measure(program, others, kind, task, make, n, seconds):
+def measure(command, others, kind, task, make, n, seconds):
     before = None
     for size in (n, 2 * n, 4 * n):
         script = ("\n".join(make(size)) + "\n").encode()
-        took, memory, matches, verdicts, status = run([program] + WORDS[task], script, seconds)
+        took, memory, matches, verdicts, status = run(command + WORDS[task], script, seconds)
         cells = [f"{kind:<13}", f"{size:>8}", f"{took:>9.3f} s"]
         cells.append("" if memory is None else f"{memory:>8.1f} MiB")
         cells.append("" if matches is None else summary(task, matches, verdicts))
@@ -401,6 +424,7 @@ def main():
     parser.add_argument("--n", type=int, default=1000, help="the size of the first script of each kind (1000)")
     parser.add_argument("--only", help="the one kind to run: " + ", ".join(kind for kind, _, _ in KINDS))
     parser.add_argument("--seconds", type=float, default=120, help="a longer run is cut off (120)")
+    parser.add_argument("--workers", type=int, default=0, help="how many threads find the program's matches (0)")
     words = parser.parse_args()
     program = os.path.abspath(words.program)
     if not os.access(program, os.X_OK):
@@ -408,7 +432,8 @@ def main():
     others = peers()
     for kind, task, make in KINDS:
         if words.only in (None, kind):
-            measure(program, others, kind, task, make, words.n, words.seconds)
+            command = [program, "--workers", str(words.workers)]
+            measure(command, others, kind, task, make, words.n, words.seconds)
 
 
 if __name__ == "__main__":
