@@ -390,11 +390,11 @@ def summary(task, matches, verdicts):
     return f"{verdicts.count('sat'):>5} sat {verdicts.count('unsat'):>5} unsat {verdicts.count('unknown'):>5} unknown"
 
 
-def measure(command, others, kind, task, make, n, seconds):
+def measure(ours, others, kind, task, make, n, seconds):
     before = None
     for size in (n, 2 * n, 4 * n):
         script = ("\n".join(make(size)) + "\n").encode()
-        took, memory, matches, verdicts, status = run(command + WORDS[task], script, seconds)
+        took, memory, matches, verdicts, status = run(ours + WORDS[task], script, seconds)
         cells = [f"{kind:<13}", f"{size:>8}", f"{took:>9.3f} s"]
         cells.append("" if memory is None else f"{memory:>8.1f} MiB")
         cells.append("" if matches is None else summary(task, matches, verdicts))
@@ -432,8 +432,8 @@ def main():
     others = peers()
     for kind, task, make in KINDS:
         if words.only in (None, kind):
-            command = [program, "--workers", str(words.workers)]
-            measure(command, others, kind, task, make, words.n, words.seconds)
+            ours = [program, "--workers", str(words.workers)]
+            measure(ours, others, kind, task, make, words.n, words.seconds)
 
 
 if __name__ == "__main__":
