@@ -1,4 +1,6 @@
 //! The matches of a graph, whoever finds them.
+ghost use Rattle.std.specs.Prelude.{◌≤◌};
+
 use super::fixture::example;
 use graph_terms::Numbers;
 use match_graph::{Alone, Matchers, whole_batch};
