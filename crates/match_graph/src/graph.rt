@@ -7,17 +7,17 @@ ghost use Rattle.graph_meaning.specs.Lawful.{Allows};
 ghost use Rattle.graph_meaning.specs.Unions.{ListsUnions};
 ghost use Rattle.graph_meaning.specs.Standing.{terms_of, differs_of, triggers_of, levels_of};
 ghost use Rattle.graph_meaning.specs.State.{GraphState, first_state, state_after, table_of, IsFullFor};
-ghost use Rattle.graph_terms.specs.Terms.{term_row};
+ghost use Rattle.graph_terms.specs.Terms.{most_args, term_row, IsFull};
 ghost use Rattle.graph_terms.specs.TermEntry.{AddGrows, AddFails};
 ghost use Rattle.graph_congruence.specs.Clash.{IsClash};
-ghost use Rattle.graph_congruence.specs.Operations.{CanTakeBack, taken_back};
+ghost use Rattle.graph_congruence.specs.Operations.{Adds, CanTakeBack, taken_back};
 ghost use Rattle.match_graph.specs.AllMatches.{AreAllMatches};
 ghost use Rattle.match_graph.specs.GraphTerms.{with_terms};
 ghost use Rattle.match_forest.specs.Forest.{Serves};
 ghost use Rattle.graph_trigger.specs.Trigger.{IsValid};
 
 use crate::matches::all_matches_of;
-use graph_classes::Unions;
+use graph_classes::{Added, Unions};
 use graph_congruence::{Clash, Graph};
 use graph_meaning::{ClassGraph, Front, Op};
 use graph_terms::{Memory, TableFault, TermEntry, TermRow};
@@ -94,6 +94,20 @@ impl MatchingGraph {
     {
         let added = self.graph.add(symbol, args)?;
         Ok(added.term)
+    }
+
+    /// The term of a row, which is entered with all that follows where it is new, and the unions that followed. `Full` comes
+    /// where it is new and as many terms stand as may. After a fault the graph is as before.
+    pub fn enter(&mut self, symbol: u32, args: &[u32]) -> Result<Added, TableFault>
+        requires terms { All (λ arg. arg < length (terms_of self.old.standing)) args.now }
+        requires few { length args.now ≤ most_args }
+        ensures added { IfOk result (λ added. Adds self.old self.new (term_row symbol args.now) added.term added.unions added.fresh) }
+        ensures within { length (terms_of self.new.standing) ≤ self.new.limit }
+        ensures full { result ≡ Err TableFault.Full → IsFull (table_of self.old) (term_row symbol args.now) }
+        ensures err { OnErr result (self.new ≡ self.old) }
+    {
+        let added = self.graph.add(symbol, args)?;
+        Ok(added)
     }
 
     /// Merges two terms, with all that follows, and lists the unions. Without memory the graph is as before.

@@ -1,5 +1,5 @@
 //! Owed claims.
-ghost use Rattle.std.specs.Prelude.{◌≡◌, true, false, ◌<◌, ◌-◌, [], ℕ, List, length, take, slice_get, get_or, Some, None, Contains, IsTrue, IsSome, IfSome, IfOk, OnOk, OnErr};
+ghost use Rattle.std.specs.Prelude.{◌≡◌, true, false, ◌<◌, ◌≤◌, ◌-◌, [], ℕ, List, length, take, slice_get, get_or, Some, None, Contains, IsTrue, IsSome, IfSome, IfOk, OnOk, OnErr};
 ghost use Rattle.graph_trigger.specs.declared.trigger.Trigger.{Trigger as SpecTrigger};
 ghost use Rattle.graph_meaning.specs.Standing.{terms_of, triggers_of};
 ghost use Rattle.match_paths.specs.Paths.{IsThrough, Serves as ServesPaths};
@@ -140,6 +140,26 @@ impl Owed {
         if let Some(mark) = self.begun {
             self.log.cut(mark);
         }
+    }
+
+    /// How long the log is. Takes no memory.
+    pub fn mark(&self) -> usize
+        ensures { result ≡ length self.now.log }
+    {
+        let _levels = &self.levels;
+        self.log.len()
+    }
+
+    /// Takes back what happened to claims since the log was so long. Takes no memory. The caller sees that no level was
+    /// opened since then, and that no batch is out.
+    pub fn back_to(&mut self, mark: usize)
+        requires within { mark ≤ length self.old.log }
+        requires levels { (k opened : ℕ) → slice_get self.old.levels k ≡ Some opened → opened ≤ mark }
+        requires free { self.old.batch ≡ None }
+        ensures { self.new ≡ record self.old { log = take mark self.old.log; begun = None } }
+    {
+        self.begun = None;
+        self.log.cut(mark);
     }
 
     /// Opens a level. `Memory` comes where memory is refused; all is then as before.
