@@ -1,0 +1,4 @@
+mod ArrangingLemmas
+mod ListLemmas
+mod SameLemmas
+mod StoredLemmas
