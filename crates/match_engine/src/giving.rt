@@ -1,0 +1,52 @@
+//! Claims that are given for the unions of an operation.
+ghost use Rattle.std.specs.Prelude.{◌<◌, length, slice_get, Some, Contains, OnOk};
+ghost use Rattle.graph_meaning.specs.declared.union.Union.{Union as SpecUnion};
+ghost use Rattle.graph_meaning.specs.Standing.{terms_of, triggers_of};
+ghost use Rattle.match_owed.specs.Giving.{GivesAll, GivesSome};
+ghost use Rattle.match_engine.specs.Serving.{Serves};
+ghost use Rattle.match_engine.specs.Terms.{IsThroughAny, IsOfRow};
+
+use crate::trigger_index::TriggerIndex;
+use graph_classes::Unions;
+use graph_meaning::ClassGraph;
+use graph_terms::Memory;
+use match_owed::Owed;
+
+/// Gives the claims that are due through the class of each union. `Memory` comes where memory is refused; some of the
+/// claims are then given.
+pub fn give_unions<G: ClassGraph>(
+    owed: &mut Owed,
+    index: &TriggerIndex,
+    graph: &G,
+    unions: &Unions,
+) -> Result<(), Memory>
+    requires serves { Serves index.now (triggers_of (G.standing graph.now)) }
+    requires below { (union : SpecUnion) → Contains unions.now union → union.left < length (terms_of (G.standing graph.now)) }
+    ensures ok { OnOk result (GivesAll (IsThroughAny (G.standing graph.now) unions.now) owed.old owed.new) }
+    ensures some { GivesSome (IsThroughAny (G.standing graph.now) unions.now) owed.old owed.new }
+{
+    for i in 0..unions.len() {
+        owed.on_union(&index.paths, graph, unions.get(i))?;
+    }
+    Ok(())
+}
+
+/// Gives the claims that are due through the class of each union, and those of a term. `Memory` comes where memory is
+/// refused; some of the claims are then given.
+pub fn give_row<G: ClassGraph>(
+    owed: &mut Owed,
+    index: &TriggerIndex,
+    graph: &G,
+    unions: &Unions,
+    term: u32,
+) -> Result<(), Memory>
+    requires serves { Serves index.now (triggers_of (G.standing graph.now)) }
+    requires below { (union : SpecUnion) → Contains unions.now union → union.left < length (terms_of (G.standing graph.now)) }
+    requires term { term < length (terms_of (G.standing graph.now)) }
+    ensures ok { OnOk result (GivesAll (IsOfRow (G.standing graph.now) unions.now term) owed.old owed.new) }
+    ensures some { GivesSome (IsOfRow (G.standing graph.now) unions.now term) owed.old owed.new }
+{
+    give_unions(owed, index, graph, unions)?;
+    owed.on_add(&index.starts, graph, term)?;
+    Ok(())
+}
