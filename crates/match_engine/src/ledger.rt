@@ -14,7 +14,7 @@ ghost use Rattle.match_engine.specs.Terms.{IsThroughAny, IsOfRow};
 ghost use Rattle.match_engine.specs.declared.note.Note.{Note as SpecNote};
 
 use crate::answering::{answers_of, discharge_each};
-use crate::giving::{give_row, give_unions};
+use crate::giving::{give_row, give_trigger, give_unions};
 use crate::note::Note;
 use crate::trigger_index::TriggerIndex;
 use graph_classes::Unions;
@@ -189,7 +189,7 @@ impl Ledger {
         ensures err { OnErr result (self.new ≡ self.old) }
     {
         let note = self.note();
-        let given = self.owed.on_live(graph, trigger);
+        let given = give_trigger(&mut self.owed, graph, trigger);
         self.end(note, given)
     }
 
