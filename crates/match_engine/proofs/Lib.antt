@@ -6,3 +6,8 @@ mod TellingLemmas
 mod StoreLemmas
 mod SameLemmas
 mod SettleLemmas
+mod StandingLemmas
+mod DueLemmas
+mod AccountLemmas
+mod StandsLemmas
+mod OperationLemmas

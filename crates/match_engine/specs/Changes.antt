@@ -1,11 +1,11 @@
 -- What operations, settles and going back do to the work.
-use Rattle.std.specs.Prelude.{◌≡◌, ◌⊎◌, ℕ, Bool, true, false, List, [], ◌∷◌, ◌++◌, Some, length, take, slice_get}
+use Rattle.std.specs.Prelude.{◌≡◌, ◌≢◌, ◌⊎◌, ℕ, Bool, true, false, List, [], ◌∷◌, ◌++◌, Some, length, take, slice_get}
 use Rattle.graph_meaning.specs.declared.claim.Claim.{Claim}
 use Rattle.graph_meaning.specs.declared.done.Done.{Done}
 use Rattle.graph_meaning.specs.declared.op.Op.{Op}
-use Rattle.graph_meaning.specs.declared.op.Op.TheVariants.{Add}
+use Rattle.graph_meaning.specs.declared.op.Op.TheVariants.{Add, Pop}
 use Rattle.graph_meaning.specs.declared.union.Union.{Union}
-use Rattle.graph_meaning.specs.Standing.{terms_of}
+use Rattle.graph_meaning.specs.Standing.{terms_of, rows_added, merges_added, triggers_added}
 use Rattle.graph_meaning.specs.Unions.{ListsUnions}
 use Rattle.graph_terms.specs.declared.term_row.TermRow.{TermRow}
 use Rattle.graph_terms.specs.Terms.{HasRow, IsAbsent}
@@ -38,6 +38,13 @@ IsDueSince before now claim = IsOnSymbol now claim × Justified before now claim
 pub record Operates (op : Op) (old new : EngineState) : Type 0 where
   pub graph : new.graph ≡ state_after old.graph op
   pub work : GivesWork (IsDueSince old.graph.standing new.graph.standing) old.work new.work
+
+-- the operation adds no term, no equation and no trigger, and takes nothing away
+pub record AddsNothing (op : Op) : Type 0 where
+  pub no_term : rows_added op ≡ []
+  pub no_equation : merges_added op ≡ []
+  pub no_trigger : triggers_added op ≡ []
+  pub no_pop : op ≢ Pop
 
 -- tuples came last, or none
 abbrev pub GrowsStored : Stored → Stored → Type 0

@@ -1,6 +1,7 @@
 pub mod Account
 pub mod Answering
 pub mod Changes
+pub mod EngineInside
 pub mod EngineState
 pub mod LedgerInside
 pub mod Serving

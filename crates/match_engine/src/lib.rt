@@ -2,10 +2,10 @@
 #![tactic(auto)]
 
 mod answering;
-//pub mod engine;
+pub mod engine;
 mod giving;
 pub mod ledger;
 pub mod note;
 pub mod trigger_index;
 
-//pub use engine::Engine;
+pub use engine::Engine;
