@@ -1,24 +1,23 @@
 -- Which claims an operation gives are those that it justifies.
-use Rattle.std.proofs.Common.{◌≡◌, ◌⊎◌, ◌+◌, ◌<◌, ◌≤◌, ◌↔◌, ⊎_elim, inl, inr, ℕ, List, [], ◌∷◌, ◌++◌, Some, length, take, slice_get, Contains, refl, sym, ap, subst, ◌∙◌, arith}
+use Rattle.std.proofs.Common.{◌≡◌, ◌+◌, ◌<◌, ◌≤◌, ◌↔◌, ⊎_elim, inl, inr, ℕ, List, [], ◌∷◌, ◌++◌, length, Contains, sym, ap, subst, arith}
 use Rattle.std.proofs.lemmas.Option.{none-some, slice_get_within}
 use Rattle.graph_meaning.specs.declared.claim.Claim.{Claim}
 use Rattle.graph_meaning.specs.declared.done.Done.{Done}
 use Rattle.graph_meaning.specs.declared.union.Union.{Union}
 use Rattle.graph_terms.specs.declared.term_row.TermRow.{TermRow}
 use Rattle.graph_terms.specs.Terms.{term_row}
-use Rattle.graph_meaning.specs.Justified.{Justified, Through}
+use Rattle.graph_meaning.specs.Justified.{Justified}
 use Rattle.graph_meaning.specs.Lawful.{IsLawful}
 use Rattle.graph_meaning.specs.Same.{Derives, Same, same_term, turned, joined}
 use Rattle.graph_meaning.specs.Standing.{merges_of, terms_of, triggers_of}
 use Rattle.graph_meaning.specs.Unions.{Generated, ListsUnions, WasSame, was, listed, turned as turned_union, joined as joined_union}
 use Rattle.match_laws.specs.Given.{IsGiven, IsOnSymbol, by_term, by_trigger, by_union}
 use Rattle.match_laws.specs.OwedLaw.{GivenLaw}
-use Rattle.match_owed.specs.declared.event.Event.{Event}
 use Rattle.match_owed.specs.Due.{IsDueTrigger}
-use Rattle.match_engine.specs.Changes.{GivesClaims, GivesWork, IsDueSince}
+use Rattle.match_engine.specs.Changes.{GivesWork, IsDueSince}
 use Rattle.match_engine.specs.EngineState.{Work}
 use Rattle.match_engine.specs.Terms.{IsOfRow, IsThroughAny}
-use Rattle.match_engine.proofs.GiveLemmas.{claims_as, claims_none}
+use Rattle.match_engine.proofs.GiveLemmas.{claims_as}
 
 nothing_in : {X Y : Type 0} (x : X) → Contains [] x → Y
 nothing_in x c = absurd (omega (arith, c.1))

@@ -1,12 +1,12 @@
 -- Claims that are given, one change after another.
-use Rattle.std.proofs.Common.{◌≡◌, ◌⊎◌, ◌+◌, ◌<◌, ⊎_elim, inl, inr, ℕ, List, [], ◌∷◌, ◌++◌, Some, length, take, slice_get, Contains, refl, sym, ap, subst, ◌∙◌, append-nil, append_assoc, arith}
+use Rattle.std.proofs.Common.{◌≡◌, ◌⊎◌, ◌+◌, ⊎_elim, inl, inr, ℕ, List, [], ◌∷◌, ◌++◌, Some, take, slice_get, refl, sym, ap, subst, ◌∙◌, append-nil, append_assoc, arith}
 use Rattle.std.proofs.lemmas.List.Elements.{Contains-append_left, Contains-push, Contains-push_cases}
 use Rattle.graph_meaning.specs.declared.claim.Claim.{Claim}
 use Rattle.graph_meaning.specs.declared.done.Done.{Done}
 use Rattle.graph_meaning.specs.declared.union.Union.{Union}
 use Rattle.graph_meaning.specs.Standing.{triggers_of}
 use Rattle.match_owed.specs.declared.event.Event.{Event}
-use Rattle.match_owed.specs.OwedLog.{OwedLog, Grows, Owes, SameButLog}
+use Rattle.match_owed.specs.OwedLog.{OwedLog, Grows, SameButLog}
 use Rattle.match_owed.specs.Giving.{GivesAll}
 use Rattle.match_paths.specs.Paths.{IsThrough}
 use Rattle.match_engine.specs.Changes.{GivesClaims}

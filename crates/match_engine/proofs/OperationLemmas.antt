@@ -1,10 +1,9 @@
 -- What each operation of an engine does.
-use Rattle.std.proofs.Common.{◌≡◌, ◌≢◌, ◌+◌, ◌<◌, ◌≤◌, ℕ, Bool, true, false, List, [], ◌∷◌, ◌++◌, Some, length, Contains, refl, sym, ap, subst, ◌∙◌, append-nil, arith}
+use Rattle.std.proofs.Common.{◌≡◌, ◌≢◌, ◌+◌, ◌<◌, ◌≤◌, ℕ, Bool, true, false, List, [], ◌∷◌, ◌++◌, length, Contains, refl, sym, ap, subst, ◌∙◌, append-nil, arith}
 use Rattle.std.proofs.lemmas.List.{length-append}
-use Rattle.graph_meaning.specs.declared.claim.Claim.{Claim}
 use Rattle.graph_meaning.specs.declared.done.Done.{Done}
 use Rattle.graph_meaning.specs.declared.op.Op.{Op}
-use Rattle.graph_meaning.specs.declared.op.Op.TheVariants.{Add, Merge, Differ, Live, Push, Pop}
+use Rattle.graph_meaning.specs.declared.op.Op.TheVariants.{Add, Merge, Live, Push, Pop}
 use Rattle.graph_meaning.specs.declared.union.Union.{Union}
 use Rattle.graph_terms.specs.declared.term_row.TermRow.{TermRow}
 use Rattle.graph_trigger.specs.declared.trigger.Trigger.{Trigger}
@@ -13,12 +12,11 @@ use Rattle.graph_meaning.specs.Standing.{merges_added, merges_of, rows_added, te
 use Rattle.graph_meaning.specs.State.{GraphState, state_after}
 use Rattle.graph_meaning.specs.Unions.{ListsUnions}
 use Rattle.graph_terms.specs.Terms.{HasRow, IsAbsent}
-use Rattle.graph_congruence.specs.Operations.{Adds, CanTakeBack, new_row, old_row}
+use Rattle.graph_congruence.specs.Operations.{Adds, new_row, old_row}
 use Rattle.match_laws.specs.History.{StepHolds}
 use Rattle.match_laws.specs.OwedLaw.{GivenLaw}
 use Rattle.match_owed.specs.Due.{IsDueTrigger}
 use Rattle.match_owed.specs.OwedLog.{CountsOwed}
-use Rattle.match_engine.specs.Account.{IsAccounted}
 use Rattle.match_engine.specs.Changes.{AddsNothing, GivesWork, IsDueSince}
 use Rattle.match_engine.specs.EngineState.{Work, note_of}
 use Rattle.match_engine.specs.Stands.{Stands, operated}
@@ -61,6 +59,14 @@ same_terms graph after op other is none = terms_now graph after op other is ∙ 
 
 pub same_merges : (graph after : GraphState) (op : Op) → op ≢ Pop → after ≡ state_after graph op → merges_added op ≡ [] → merges_of after.standing ≡ merges_of graph.standing
 same_merges graph after op other is none = merges_now graph after op other is ∙ ap (λ (ms : List (ℕ × ℕ)). merges_of graph.standing ++ ms) none ∙ append-nil (merges_of graph.standing)
+
+-- a row comes last
+pub row_longer : (graph after : GraphState) (symbol : ℕ) (args : List ℕ) → after ≡ state_after graph (Add symbol args) → length (terms_of after.standing) ≡ length (terms_of graph.standing) + 1
+row_longer graph after symbol args is = ap length (terms_now graph after (Add symbol args) (add_no_pop symbol args) is) ∙ length-append (terms_of graph.standing) (rows_added (Add symbol args))
+
+-- and so does a trigger
+pub trigger_longer : (graph after : GraphState) (trigger : Trigger) → after ≡ state_after graph (Live trigger) → length (triggers_of after.standing) ≡ length (triggers_of graph.standing) + 1
+trigger_longer graph after trigger is = ap length (triggers_now graph after (Live trigger) (live_no_pop trigger) is) ∙ length-append (triggers_of graph.standing) (trigger ∷ [])
 
 module _ (step : StepHolds) (law : GivenLaw) (graph after : GraphState) (old new : Work) (count : ℕ) (lawful : IsLawful after.standing) (stands : Stands graph.standing old) (counts : CountsOwed new.log count) where
   stands_after : (op : Op) → op ≢ Pop → after ≡ state_after graph op → GivesWork (IsDueSince graph.standing after.standing) old new → Stands after.standing new

@@ -1,5 +1,5 @@
 -- Tuples that are stored, one change after another.
-use Rattle.std.proofs.Common.{◌≡◌, ◌⊎◌, ◌+◌, ◌↔◌, ⊎_elim, inl, inr, ℕ, List, [], ◌∷◌, ◌++◌, Some, length, take, slice_get, Contains, refl, sym, ap, subst, ◌∙◌, append-nil, append_assoc, arith}
+use Rattle.std.proofs.Common.{◌≡◌, ◌⊎◌, ◌+◌, ◌↔◌, ⊎_elim, inl, inr, ℕ, List, [], ◌∷◌, ◌++◌, Some, take, slice_get, Contains, sym, ap, subst, ◌∙◌, append-nil, append_assoc, arith}
 use Rattle.std.proofs.lemmas.List.Elements.{Contains-append_left, Contains-push, Contains-push_cases}
 use Rattle.match_laws.specs.Due.{Stored}
 use Rattle.match_machine.specs.Told.{Told}

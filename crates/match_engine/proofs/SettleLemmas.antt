@@ -1,31 +1,30 @@
 -- What a settle does.
-use Rattle.std.proofs.Common.{◌≡◌, ◌⊎◌, ◌<◌, ◌≤◌, ◌+◌, ⊎_elim, inl, inr, ℕ, List, [], ◌∷◌, ◌++◌, IfSome, None, Some, length, take, slice_get, get_or, All, Contains, refl, sym, ap, ap₂, subst, ◌∙◌, append-nil, arith}
+use Rattle.std.proofs.Common.{◌≡◌, ◌⊎◌, ◌<◌, ⊎_elim, inl, inr, ℕ, List, [], ◌∷◌, IfSome, Some, length, take, slice_get, get_or, All, Contains, refl, sym, ap, subst, ◌∙◌, append-nil, arith}
 use Rattle.std.proofs.lemmas.List.{take_all}
-use Rattle.std.proofs.lemmas.List.Elements.{Contains-append_left, Contains-get_or}
+use Rattle.std.proofs.lemmas.List.Elements.{Contains-get_or}
 use Rattle.std.proofs.lemmas.Option.{get_or_from_slice_get, same_Some, slice_get_within}
 use Rattle.graph_meaning.specs.declared.claim.Claim.{Claim}
 use Rattle.graph_meaning.specs.declared.done.Done.{Done}
 use Rattle.graph_trigger.specs.declared.trigger.Trigger.{Trigger}
 use Rattle.graph_trigger.specs.Trigger.{Occurs, at_root}
-use Rattle.graph_meaning.specs.Lawful.{IsLawful}
 use Rattle.graph_meaning.specs.Match.{AreMatches, IsItemMatch, IsMatch}
 use Rattle.graph_meaning.specs.Standing.{triggers_of}
 use Rattle.match_trees.specs.EntryList.{entry_of}
 use Rattle.match_forest.specs.Forest.{Forest, Serves}
 use Rattle.match_graph.specs.AllMatches.{AreAllMatches}
 use Rattle.match_graph.specs.WholeBatch.{IsAskable}
-use Rattle.match_laws.specs.Due.{Stored, IsAnswered, IsComplete, IsSound}
+use Rattle.match_laws.specs.Due.{Stored, IsAnswered}
 use Rattle.match_laws.specs.Given.{IsOnSymbol}
 use Rattle.match_laws.specs.History.{Seen, Holds, StepHolds, settles, no_level}
 use Rattle.match_laws.specs.OwedLaw.{NothingCameLaw}
 use Rattle.match_machine.specs.declared.item.Item.{Item}
 use Rattle.match_owed.specs.declared.event.Event.{Event}
 use Rattle.match_owed.specs.Items.{AreAsked, AreItems, HasEntries, TakesBatch}
-use Rattle.match_owed.specs.OwedLog.{AreOwed, GivesBack, Grows, OwedLog, Owes, SameButLog, TakesOff, stays, clears}
+use Rattle.match_owed.specs.OwedLog.{GivesBack, Grows, OwedLog, Owes, SameButLog, TakesOff, stays, clears}
 use Rattle.match_stored.specs.Stored.{ListsStored}
 use Rattle.match_engine.specs.Account.{IsAccounted, seen_of}
 use Rattle.match_engine.specs.Answering.{Asks, AtOne, IsListedBelow, Puts}
-use Rattle.match_engine.specs.Changes.{GrowsStored, Settles}
+use Rattle.match_engine.specs.Changes.{Settles}
 use Rattle.match_engine.specs.declared.note.Note.{Note}
 use Rattle.match_engine.specs.EngineState.{Work}
 use Rattle.match_engine.proofs.ListLemmas.{element_at, place_of, stands_at}

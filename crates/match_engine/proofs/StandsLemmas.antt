@@ -1,18 +1,19 @@
 -- The history of a standing list, and going back in it.
-use Rattle.std.proofs.Common.{◌≡◌, ◌⊎◌, ◌+◌, ◌<◌, ◌≤◌, ⊎_elim, inl, inr, ℕ, List, [], ◌∷◌, ◌++◌, Result, Ok, Err, OnOk, OnErr, Some, length, take, slice_get, refl, sym, ap, ap₂, subst, ◌∙◌, append-nil, arith}
+use Rattle.std.proofs.Common.{◌≡◌, ◌<◌, ◌≤◌, ⊎_elim, ℕ, List, [], ◌∷◌, ◌++◌, Result, Ok, Err, OnOk, OnErr, Some, length, take, slice_get, sym, ap, subst, ◌∙◌, append-nil, arith}
 use Rattle.std.proofs.lemmas.Bool.{cases_lt}
-use Rattle.std.proofs.lemmas.List.{length-append, take-append-le, take_all}
+use Rattle.std.proofs.lemmas.List.{length-append, take-append-le}
 use Rattle.std.proofs.Math.Seq.{take-append_seam}
-use Rattle.std.proofs.lemmas.Option.{slice_get_within}
+use Rattle.std.proofs.lemmas.Option.{same_Some, slice_get_within}
 use Rattle.graph_meaning.specs.declared.done.Done.{Done}
 use Rattle.match_laws.specs.Due.{Stored}
 use Rattle.match_owed.specs.declared.event.Event.{Event}
 use Rattle.match_engine.specs.declared.note.Note.{Note}
 use Rattle.match_engine.specs.Account.{IsAccounted}
-use Rattle.match_engine.specs.Changes.{GivesWork, IsDueSince, Settles, cut_to}
+use Rattle.match_engine.specs.Changes.{GoesBack, Settles, cut_to}
 use Rattle.match_engine.specs.EngineState.{Work, note_of}
 use Rattle.match_engine.specs.Stands.{Stands, nothing, operated, settled}
 use Rattle.match_engine.proofs.ListLemmas.{slice_front, slice_last}
+use Rattle.match_engine.proofs.StandingLemmas.{front_is}
 
 pub accounts : {now : List Done} {work : Work} → Stands now work → IsAccounted now work
 accounts (nothing _ _ account) = account
@@ -113,3 +114,31 @@ back_at {now} {work} (settled {old = old} stands settles _) count less =
 pub settled_or_not : {A E : Type 0} (result : Result A E) (now : List Done) (old new : Work) → Stands now old → OnOk result (Settles now old new) → OnOk result (IsAccounted now new) → OnErr result (new ≡ old) → Stands now new
 settled_or_not (Ok a) now old new stands settles account same = settled stands settles account
 settled_or_not (Err e) now old new stands settles account same = subst (Stands now) (sym same) stands
+
+-- what goes back to the place of the last note is what was there
+pub back_same : (old mid new : Work) (count : ℕ) (log : List Event) (stored : Stored) → count ≡ length old.notes → mid.log ≡ old.log ++ log → mid.stored ≡ old.stored ++ stored → mid.notes ≡ old.notes ++ note_of old ∷ [] → GoesBack count mid new → new ≡ old
+back_same old mid new count log stored at logs tuples noted back =
+    let here : slice_get mid.notes count ≡ Some (note_of old) = ap (λ n. slice_get mid.notes n) at ∙ ap (λ (l : List Note). slice_get l (length old.notes)) noted ∙ slice_last old.notes (note_of old) in
+    let same : back.0 ≡ note_of old = same_Some back.0 (note_of old) (sym back.1 ∙ here) in
+    back.2 ∙ ap (λ n. cut_to count n mid) same ∙ ap (λ n. cut_to n (note_of old) mid) at ∙ cut_last old mid log stored logs tuples noted
+
+-- the same where an operation was noted and nothing else was done
+pub back_noted : (old mid new : Work) (count : ℕ) → count ≡ length old.notes → mid ≡ record old { notes = old.notes ++ note_of old ∷ [] } → GoesBack count mid new → new ≡ old
+back_noted old mid new count at is back = back_same old mid new count [] [] at (ap (λ (w : Work). w.log) is ∙ sym (append-nil old.log)) (ap (λ (w : Work). w.stored) is ∙ sym (append-nil old.stored)) (ap (λ (w : Work). w.notes) is) back
+
+-- there is a note of it then
+pub has_noted : (old mid : Work) (count : ℕ) → count ≡ length old.notes → mid ≡ record old { notes = old.notes ++ note_of old ∷ [] } → (note : Note) × (slice_get mid.notes count ≡ Some note) × (note.log ≤ length mid.log)
+has_noted old mid count at is = (
+  note_of old,
+  ap (λ n. slice_get mid.notes n) at ∙ ap (λ (l : List Note). slice_get l (length old.notes)) (ap (λ (w : Work). w.notes) is) ∙ slice_last old.notes (note_of old),
+  omega (arith, ap (λ (w : Work). length w.log) is),
+)
+
+-- the work of a front, after it went back
+pub went_back : (standing now : List Done) (old new : Work) (k count : ℕ) → now ≡ take k standing → count ≡ length now → length now < length standing → Stands standing old → GoesBack count old new → Stands now new
+went_back standing now old new k count is at less stands back =
+    let there = back_at stands count (omega (arith, at, less)) in
+    let same : back.0 ≡ there.note = same_Some back.0 there.note (sym back.1 ∙ there.has) in
+    let work : new ≡ cut_to count there.note old = back.2 ∙ ap (λ n. cut_to count n old) same in
+    let front : take count standing ≡ now = ap (λ n. take n standing) (at ∙ ap length is) ∙ front_is k standing ∙ sym is in
+    subst (λ (n : List Done). Stands n new) front (subst (Stands (take count standing)) (sym work) there.stands)

@@ -1,14 +1,13 @@
 -- Stored tuples stand.
-use Rattle.std.proofs.Common.{◌≡◌, ◌<◌, ◌≤◌, ℕ, ⊎_elim, List, [], ◌∷◌, length, All, Contains, arith}
+use Rattle.std.proofs.Common.{◌<◌, ℕ, ⊎_elim, List, length, All}
 use Rattle.std.proofs.lemmas.List.Elements.{All-nil, All-cons}
 use Rattle.std.proofs.lemmas.Option.{slice_get_within}
 use Rattle.graph_terms.specs.declared.term_row.TermRow.{TermRow}
 use Rattle.graph_terms.specs.Terms.{term_row}
 use Rattle.graph_meaning.specs.declared.done.Done.{Done}
 use Rattle.graph_meaning.specs.Lawful.{AreBelow, EndsBelow, IsLawful}
-use Rattle.graph_meaning.specs.Match.{MatchesTrigger}
 use Rattle.graph_meaning.specs.Same.{Derives, DerivesEach, IsClassLeader, same_term, turned, joined, merged, congruent, none, more}
-use Rattle.graph_meaning.specs.Standing.{terms_of, merges_of, triggers_of}
+use Rattle.graph_meaning.specs.Standing.{triggers_of}
 use Rattle.match_forest.specs.Forest.{Forest}
 use Rattle.match_laws.specs.Due.{Stored, IsSound}
 use Rattle.match_machine.specs.declared.item.Item.{Item}

@@ -1,5 +1,5 @@
 -- Claims that are taken off, one change after another.
-use Rattle.std.proofs.Common.{◌≡◌, ◌⊎◌, ◌+◌, ◌<◌, ◌≤◌, ⊎_elim, inl, inr, ℕ, List, [], IfSome, Option, None, Some, length, slice_get, get_or, Contains, refl, sym, ap, subst, ◌∙◌, arith}
+use Rattle.std.proofs.Common.{◌≡◌, ◌⊎◌, ◌+◌, ⊎_elim, inl, inr, ℕ, List, [], IfSome, Option, None, Some, slice_get, get_or, Contains, ap, subst, ◌∙◌, arith}
 use Rattle.std.proofs.lemmas.Bool.{cases_lt}
 use Rattle.graph_meaning.specs.declared.claim.Claim.{Claim}
 use Rattle.match_owed.specs.declared.event.Event.{Event}

@@ -103,13 +103,17 @@ impl Engine {
             return Ok(added);
         }
         let _terms = self.graph.len();
-        match self.ledger.enter(&self.index, &self.graph, &added.unions, added.term) {
+        match self
+            .ledger
+            .enter(&self.index, &self.graph, &added.unions, added.term)
+        {
             Ok(()) => {
                 let _owed = self.ledger.owed();
                 Ok(added)
             }
             Err(_refused) => {
                 self.graph.take_back();
+                let _limit = self.graph.limit();
                 Err(TableFault::Memory)
             }
         }

@@ -1,7 +1,6 @@
-use Rattle.std.proofs.Common.{◌≡◌, ℕ, [], List, Option, Contains, IfSome, get_or, sym, subst, arith}
+use Rattle.std.proofs.Common.{ℕ, [], List, Option, Contains, IfSome, get_or, subst}
 use Rattle.graph_meaning.specs.declared.claim.Claim.{Claim}
-use Rattle.match_owed.specs.OwedLog.{OwedLog, TakesOff}
-use Rattle.match_engine.specs.Answering.{IsListedBelow}
+use Rattle.match_owed.specs.OwedLog.{TakesOff}
 use Rattle.match_engine.proofs.GiveLemmas.{same_both}
 use Rattle.match_engine.proofs.TakeLemmas.{lists_next}
 use Rattle.match_engine.proofs.answering.discharge_each.Goals as goal

@@ -1,5 +1,4 @@
 use Rattle.std.proofs.Common.{inl, inr}
-use Rattle.graph_meaning.specs.Standing.{triggers_of}
 use Rattle.match_owed.specs.Due.{IsDueTerm}
 use Rattle.match_engine.specs.Terms.{IsThroughAny, IsOfRow}
 use Rattle.match_engine.proofs.GiveLemmas.{claims_both, claims_of, grows_both, same_both}

@@ -1,9 +1,6 @@
-use Rattle.std.proofs.Common.{◌≡◌, List, refl, sym, ap, subst, ◌∙◌}
-use Rattle.graph_trigger.specs.declared.trigger.Trigger.{Trigger}
+use Rattle.std.proofs.Common.{refl, sym, subst}
 use Rattle.graph_meaning.specs.declared.op.Op.TheVariants.{Merge}
-use Rattle.graph_meaning.specs.Standing.{triggers_of}
 use Rattle.match_engine.specs.Changes.{Operates}
-use Rattle.match_engine.specs.EngineInside.{state_of}
 use Rattle.match_engine.specs.EngineState.{EngineState}
 use Rattle.match_engine.specs.Serving.{Serves}
 use Rattle.match_engine.proofs.OperationLemmas.{merge_no_pop, merge_no_push, merged, same_triggers, unions_below}

@@ -3,7 +3,6 @@ use Rattle.graph_meaning.specs.declared.front.Front.{Front}
 use Rattle.match_engine.specs.Account.{IsAccounted}
 use Rattle.match_engine.specs.Changes.{Settles}
 use Rattle.match_engine.specs.EngineState.{Work}
-use Rattle.match_engine.specs.LedgerInside.{work_of}
 use Rattle.match_engine.proofs.SettleLemmas.{has_entries, items_askable, settle_whole, work_with}
 use Rattle.match_engine.proofs.StoreLemmas.{sound_stand}
 use Rattle.match_engine.proofs.ledger.Ledger.settle.Goals as goal
