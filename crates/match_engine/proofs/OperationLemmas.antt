@@ -1,5 +1,5 @@
 -- What each operation of an engine does.
-use Rattle.std.proofs.Common.{◌≡◌, ◌≢◌, ◌+◌, ◌<◌, ◌≤◌, ℕ, Bool, true, false, List, [], ◌∷◌, ◌++◌, length, Contains, refl, sym, ap, subst, ◌∙◌, append-nil, arith}
+use Rattle.std.proofs.Common.{◌≡◌, ◌≢◌, ◌+◌, ◌<◌, ◌≤◌, ℕ, Bool, true, false, List, [], ◌∷◌, ◌++◌, length, Contains, refl, sym, ap, subst, ◌∙◌, append-nil, arith, Some, slice_get}
 use Rattle.std.proofs.lemmas.List.{length-append}
 use Rattle.graph_meaning.specs.declared.done.Done.{Done}
 use Rattle.graph_meaning.specs.declared.op.Op.{Op}
@@ -7,24 +7,26 @@ use Rattle.graph_meaning.specs.declared.op.Op.TheVariants.{Add, Merge, Live, Pus
 use Rattle.graph_meaning.specs.declared.union.Union.{Union}
 use Rattle.graph_terms.specs.declared.term_row.TermRow.{TermRow}
 use Rattle.graph_trigger.specs.declared.trigger.Trigger.{Trigger}
-use Rattle.graph_meaning.specs.Lawful.{IsLawful}
+use Rattle.graph_meaning.specs.Lawful.{Allows, IsLawful}
 use Rattle.graph_meaning.specs.Standing.{merges_added, merges_of, rows_added, terms_of, triggers_added, triggers_of}
 use Rattle.graph_meaning.specs.State.{GraphState, state_after}
 use Rattle.graph_meaning.specs.Unions.{ListsUnions}
-use Rattle.graph_terms.specs.Terms.{HasRow, IsAbsent}
+use Rattle.graph_terms.specs.TermEntry.{AddGrows}
+use Rattle.graph_terms.specs.Terms.{HasRow, IsAbsent, term_row}
+use Rattle.match_graph.specs.GraphTerms.{with_terms}
 use Rattle.graph_congruence.specs.Operations.{Adds, new_row, old_row}
 use Rattle.match_laws.specs.History.{StepHolds}
 use Rattle.match_laws.specs.OwedLaw.{GivenLaw}
 use Rattle.match_owed.specs.Due.{IsDueTrigger}
 use Rattle.match_owed.specs.OwedLog.{CountsOwed}
-use Rattle.match_engine.specs.Changes.{AddsNothing, GivesWork, IsDueSince}
-use Rattle.match_engine.specs.EngineState.{Work, note_of}
+use Rattle.match_engine.specs.Changes.{AddsNothing, Enters, GivesWork, IsDueSince, Operates}
+use Rattle.match_engine.specs.EngineState.{EngineState, Work, note_of}
 use Rattle.match_engine.specs.Stands.{Stands, operated}
 use Rattle.match_engine.specs.Terms.{IsOfRow, IsThroughAny}
 use Rattle.match_engine.proofs.AccountLemmas.{accounts_after}
 use Rattle.match_engine.proofs.DueLemmas.{due_join, due_live, due_none, due_row, no_unions}
 use Rattle.match_engine.proofs.GiveLemmas.{claims_none}
-use Rattle.match_engine.proofs.ListLemmas.{place_of}
+use Rattle.match_engine.proofs.ListLemmas.{place_of, slice_last}
 use Rattle.match_engine.proofs.StandingLemmas.{done_with, merges_now, now_is, terms_now, triggers_now}
 use Rattle.match_engine.proofs.StandsLemmas.{accounts}
 
@@ -133,3 +135,21 @@ adds_old graph after row term unions fresh e (new_row absent last is lists) = ab
     true_false : true ≡ false → ⊥
     true_false e = cc
 adds_old graph after row term unions fresh e (old_row has same none) = (has, same, none)
+
+-- a row that was entered stands: it is the last term, and the graph grew by it, or it stood and nothing grew
+pub entered_row : (old new : EngineState) (row : TermRow) (term : ℕ) (unions : List Union) (fresh : Bool) → Enters old new row term unions fresh → length (terms_of new.graph.standing) ≤ new.graph.limit →
+    AddGrows (terms_of old.graph.standing) old.graph.limit (terms_of new.graph.standing) (λ more. new.graph ≡ with_terms old.graph more) row term
+entered_row old new row term unions fresh (Enters.new_row absent last operates lists) within =
+    let is = operates.graph in
+    let rows : terms_of new.graph.standing ≡ terms_of old.graph.standing ++ row ∷ [] = terms_now old.graph new.graph (Add row.symbol row.args) (add_no_pop row.symbol row.args) is in
+    let longer = row_longer old.graph new.graph row.symbol row.args is in
+    let limit : new.graph.limit ≡ old.graph.limit = ap (λ (g : GraphState). g.limit) is in
+    let there : slice_get (terms_of new.graph.standing) term ≡ Some row =
+    ap (λ n. slice_get (terms_of new.graph.standing) n) last ∙ ap (λ (l : List TermRow). slice_get l (length (terms_of old.graph.standing))) rows ∙ slice_last (terms_of old.graph.standing) row in
+    AddGrows.new_row there absent (omega (arith, longer, limit, within)) is
+entered_row old new row term unions fresh (Enters.old_row has same none) within = AddGrows.old_row has (ap (λ (s : EngineState). s.graph) same)
+
+-- an Add that is allowed is done
+pub entered_new : (old new : EngineState) (symbol : ℕ) (args : List ℕ) (term : ℕ) (unions : List Union) (fresh : Bool) → Allows old.graph.standing (Add symbol args) → Enters old new (term_row symbol args) term unions fresh → Operates (Add symbol args) old new
+entered_new old new symbol args term unions fresh allows (Enters.new_row absent last operates lists) = operates
+entered_new old new symbol args term unions fresh allows (Enters.old_row has same none) = absurd (allows.2 term has)
