@@ -21,7 +21,7 @@ use Rattle.match_machine.specs.declared.item.Item.{Item}
 use Rattle.match_owed.specs.declared.event.Event.{Event}
 use Rattle.match_owed.specs.Items.{AreAsked, AreItems, HasEntries, TakesBatch}
 use Rattle.match_owed.specs.OwedLog.{GivesBack, Grows, OwedLog, Owes, SameButLog, TakesOff, stays, clears}
-use Rattle.match_stored.specs.Stored.{ListsStored}
+use Rattle.match_found.specs.Stored.{ListsStored}
 use Rattle.match_engine.specs.Account.{IsAccounted, seen_of}
 use Rattle.match_engine.specs.Answering.{Asks, AtOne, IsListedBelow, Puts}
 use Rattle.match_engine.specs.Changes.{Settles}

@@ -11,7 +11,7 @@ use Rattle.graph_meaning.specs.Standing.{triggers_of}
 use Rattle.match_forest.specs.Forest.{Forest}
 use Rattle.match_laws.specs.Due.{Stored, IsSound}
 use Rattle.match_machine.specs.declared.item.Item.{Item}
-use Rattle.match_stored.specs.Stored.{AreStanding}
+use Rattle.match_found.specs.Stored.{AreStanding}
 use Rattle.match_engine.specs.Answering.{Asks, AtOne, Puts}
 
 module _ {rows : List TermRow} {merges : List (ℕ × ℕ)} (ends : EndsBelow merges (length rows)) where

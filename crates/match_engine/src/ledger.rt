@@ -21,11 +21,11 @@ use graph_classes::Unions;
 use graph_meaning::ClassGraph;
 use graph_terms::Memory;
 use match_forest::CodeForest;
+use match_found::FoundMatches;
 use match_laws::laws::{history_law, owed_law};
 use match_machine::TupleList;
 use match_machine::laws::answers_law;
 use match_owed::Owed;
-use match_stored::MatchStore;
 use std::alloc::Global;
 use std::marker::Model;
 
@@ -35,7 +35,7 @@ use std::marker::Model;
 pub struct Ledger {
     /// What happened to claims. One level stays open in it, so that its log is never cleared.
     owed: Owed,
-    store: MatchStore,
+    store: FoundMatches,
     /// How long the standing list was when all was answered last.
     base: usize,
     /// For each operation that stands, where the work was when it began.
@@ -70,7 +70,7 @@ impl Ledger {
         owed.push()?;
         Ok(Ledger {
             owed,
-            store: MatchStore::new(alloc),
+            store: FoundMatches::new(alloc),
             base: 0,
             notes: Vec::new(alloc),
         })
